@@ -1,9 +1,9 @@
 -- Lines that are put for endings.
-use Rattle.std.proofs.Common.{◌≡◌, ℕ, ◌==◌, ◌&&◌, if◌then◌else◌, Bool, true, false, List, [], ◌∷◌, Option, None, Some, refl, sym, ap, subst, ◌∙◌, arith, inl, inr, append-nil}
+use Rattle.std.proofs.Common.{◌≡◌, ℕ, ◌==◌, ◌⊎◌, ◌&&◌, if◌then◌else◌, Bool, true, false, List, [], ◌∷◌, Option, None, Some, refl, sym, ap, subst, ◌∙◌, arith, inl, inr, append-nil}
 use Rattle.std.proofs.lemmas.Bool.{cases_Bool}
 use Rattle.fv_base.specs.Told.{appended, IsBeginning, Rose}
 use Rattle.fv_base.proofs.Appending.{appended_none}
-use Rattle.fv_base.specs.Words.{FormBytes, OfCheck, OfReplay, OfGen, OfServe, form_of}
+use Rattle.fv_base.specs.Words.{FormBytes, OfCheck, OfReplay, OfGen, OfServe, OfVirtual, OfChange, OfFlatten, OfAudit, OfTrace, form_of}
 use Rattle.fv_cli.specs.declared.ending.Ending.{Ending}
 use Rattle.fv_cli.specs.declared.ending.Ending.TheVariants.{Done, Usage, ReadFault, WriteFault, NoMemory, NoMemoryToRun, TooLarge, PolicyRefused, RecordingRefused}
 use Rattle.fv_cli.specs.Endings.{ending_status, ending_line, IsPut, Outside, EndedWith, Causes, IsCheckCause, IsReplayCause, IsGenEnding}
@@ -46,17 +46,30 @@ memory_suits (Some (OfCheck policy)) = refl
 memory_suits (Some (OfReplay policy recording)) = λ e. cc
 memory_suits (Some (OfGen seed count)) = refl
 memory_suits (Some (OfServe policy listen count)) = inr refl
+memory_suits (Some (OfVirtual policy recording)) = inr refl
+memory_suits (Some (OfChange old new recording)) = inr refl
+memory_suits (Some (OfFlatten outer name inner)) = inr refl
+memory_suits (Some (OfAudit policy trace)) = inr refl
+memory_suits (Some (OfTrace policy recording)) = inr refl
 
 check_suits : (w : Outside) (policy : List ℕ) (ending : Ending) → IsCheckCause w policy ending → is_of_check ending ≡ true
 check_suits w policy Done cause = refl
-check_suits w policy Usage cause = absurd cause
+check_suits w policy Usage (inl cause) = absurd cause
+check_suits w policy Usage (inr (p, has, cause)) = absurd cause
 check_suits w policy ReadFault cause = refl
 check_suits w policy WriteFault cause = refl
 check_suits w policy NoMemory cause = refl
-check_suits w policy NoMemoryToRun cause = absurd cause
+check_suits w policy NoMemoryToRun (inl cause) = absurd cause
+check_suits w policy NoMemoryToRun (inr (p, has, cause)) = absurd cause
 check_suits w policy TooLarge cause = refl
 check_suits w policy (PolicyRefused fault) cause = refl
-check_suits w policy (RecordingRefused fault) cause = absurd cause
+check_suits w policy (RecordingRefused fault) (inl cause) = absurd cause
+check_suits w policy (RecordingRefused fault) (inr (p, has, cause)) = absurd cause
+
+replay_suits : (w : Outside) (policy recording : List ℕ) → IsReplayCause w policy recording Usage → ⊥
+replay_suits w policy recording (inl cause) = cause
+replay_suits w policy recording (inr (p, has, inl cause)) = cause
+replay_suits w policy recording (inr (p, has, inr (bytes, items, taken, cause))) = cause
 
 gen_suits : (text : List ℕ) (before after : Option (List ℕ)) (count_before count_after : ℕ) (ending : Ending) → IsGenEnding text before after count_before count_after ending → is_of_gen ending ≡ true
 gen_suits text before after count_before count_after Done cause = refl
@@ -72,19 +85,31 @@ gen_suits text before after count_before count_after (RecordingRefused fault) ca
 cause_suits : (w : Outside) (form : Option FormBytes) (ending : Ending) → Causes w form ending → Suits None form ending
 cause_suits w None ending cause = inl cause
 cause_suits w (Some (OfCheck policy)) ending cause = check_suits w policy ending cause
-cause_suits w (Some (OfReplay policy recording)) ending cause = λ is. subst (λ e. IsReplayCause w policy recording e) is cause
+cause_suits w (Some (OfReplay policy recording)) ending cause = λ is. replay_suits w policy recording (subst (λ e. IsReplayCause w policy recording e) is cause)
 cause_suits w (Some (OfGen seed count)) ending cause = gen_suits _ w.out_before w.out_after w.put_before w.put_after ending cause
 cause_suits w (Some (OfServe policy listen count)) ending cause = inl cause
+cause_suits w (Some (OfVirtual policy recording)) ending cause = inl cause
+cause_suits w (Some (OfChange old new recording)) ending cause = inl cause
+cause_suits w (Some (OfFlatten outer name inner)) ending cause = inl cause
+cause_suits w (Some (OfAudit policy trace)) ending cause = inl cause
+cause_suits w (Some (OfTrace policy recording)) ending cause = inl cause
+
+not_done : {A : Type 0} → (Done ≡ Usage) ⊎ (Done ≡ NoMemory) → A
+not_done (inl e) = absurd (cc)
+not_done (inr e) = absurd (cc)
 
 -- a run that went well, and whose flush failed
 fault_suits : (form : Option FormBytes) → Suits None form Done → Suits None form WriteFault
-fault_suits None (inl e) = absurd (cc)
-fault_suits None (inr e) = absurd (cc)
 fault_suits (Some (OfCheck policy)) _ = refl
 fault_suits (Some (OfReplay policy recording)) _ = λ e. cc
 fault_suits (Some (OfGen seed count)) _ = refl
-fault_suits (Some (OfServe policy listen count)) (inl e) = absurd (cc)
-fault_suits (Some (OfServe policy listen count)) (inr e) = absurd (cc)
+fault_suits None done = not_done done
+fault_suits (Some (OfServe policy listen count)) done = not_done done
+fault_suits (Some (OfVirtual policy recording)) done = not_done done
+fault_suits (Some (OfChange old new recording)) done = not_done done
+fault_suits (Some (OfFlatten outer name inner)) done = not_done done
+fault_suits (Some (OfAudit policy trace)) done = not_done done
+fault_suits (Some (OfTrace policy recording)) done = not_done done
 
 only_done : (ending : Ending) (failed : Bool) → (ending_status ending == 0 && failed) ≡ true → ending ≡ Done
 only_done Done failed e = refl

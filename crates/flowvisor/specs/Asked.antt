@@ -1,10 +1,10 @@
 -- What words ask for, and how what they ask for may end. All of this is the program's own rule.
 use Rattle.std.specs.Prelude.{◌≡◌, ◌≢◌, ◌⊎◌, ℕ, Bool, true, false, if◌then◌else◌, List, [], ◌∷◌, Option, None, Some, bytes_eq, codes}
-use Rattle.fv_base.specs.Words.{FormBytes, OfCheck, OfReplay, OfGen, OfServe}
+use Rattle.fv_base.specs.Words.{FormBytes, OfCheck, OfReplay, OfGen}
 use Rattle.fv_cli.specs.declared.ending.Ending.{Ending}
 use Rattle.fv_cli.specs.declared.ending.Ending.TheVariants.{Done, Usage, WriteFault, NoMemory, NoMemoryToRun, RecordingRefused}
 use Rattle.fv_cli.specs.Endings.{ending_status, ending_line, IsPut}
-use Rattle.flowvisor.specs.declared.texts.TheConstants.{HELP, VERSION}
+use Rattle.flowvisor.specs.declared.help_and_version.TheConstants.{HELP, VERSION}
 
 -- the text that a word asks for
 abbrev pub text_asked : List ℕ → Option (List ℕ)
@@ -30,14 +30,13 @@ is_of_gen NoMemory = true
 is_of_gen NoMemoryToRun = true
 is_of_gen _ = false
 
--- words that ask for a text end well or with a fault of writing; words without a form, and those of `serve`, end with the usage, where there is memory to say so; a check ends as a check can, a replay never with the usage, and a made recording as one can
+-- words that ask for a text end well or with a fault of writing; words without a form, and those of `serve` and of what isn't done yet, end with the usage, where there is memory to say so; a check ends as a check can, a replay never with the usage, and a made recording as one can
 abbrev pub Suits : Option (List ℕ) → Option FormBytes → Ending → Type 0
 Suits (Some text) form ending = (ending ≡ Done) ⊎ (ending ≡ WriteFault)
-Suits None None ending = (ending ≡ Usage) ⊎ (ending ≡ NoMemory)
 Suits None (Some (OfCheck policy)) ending = is_of_check ending ≡ true
 Suits None (Some (OfReplay policy recording)) ending = ending ≢ Usage
 Suits None (Some (OfGen seed count)) ending = is_of_gen ending ≡ true
-Suits None (Some (OfServe policy listen count)) ending = (ending ≡ Usage) ⊎ (ending ≡ NoMemory)
+Suits None _ ending = (ending ≡ Usage) ⊎ (ending ≡ NoMemory)
 
 -- A call that ended with a status: one ending that suits gives the status, and its line was put.
 pub record EndedSo (Suiting : Ending → Type 0) (err_before err_after : Option (List ℕ)) (err_faults err_faults_after status : ℕ) : Type 0 where

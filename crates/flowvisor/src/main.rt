@@ -6,12 +6,12 @@ ghost use Rattle.std.specs.IoError.{error_kind};
 
 mod clock;
 mod disk;
+mod help_and_version;
 mod run;
 mod sockets;
 mod stream;
 #[cfg(test)]
 mod tests;
-mod texts;
 mod threads;
 
 use disk::Disk;

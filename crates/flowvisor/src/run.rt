@@ -9,9 +9,9 @@ ghost use Rattle.flowvisor.specs.Asked.{text_in, EndedSo, Suits};
 ghost use Rattle.flowvisor.specs.Served.{ServedBy, WordsHadNoMemory};
 
 use crate::clock::SystemClock;
+use crate::help_and_version::text_for;
 use crate::sockets::Sockets;
 use crate::stream::Stream;
-use crate::texts::text_for;
 use fv_base::{Failed, Files, Sink, Words, is_serve, put_all};
 use fv_cli::{Ending, offline};
 use fv_live::{Host, Spawner};

@@ -3,11 +3,11 @@ ghost use Rattle.fv_live.specs.Roles.{TheSwitch};
 
 use crate::clock::SystemClock;
 use crate::disk::Disk;
+use crate::help_and_version::{HELP, VERSION};
 use crate::run::{LiveWork, answer};
 use crate::sockets::Sockets;
 use crate::start;
 use crate::stream::Stream;
-use crate::texts::{HELP, VERSION};
 use crate::threads::{Done, ThreadSpawner};
 use fv_base::{Files, LoadFault, MemorySink, Sink, load_file, put_all};
 use fv_live::{Clock, Dialer, Host, Source, Spawner, Wires, Work};

@@ -14,19 +14,20 @@
 
 mod benchmark;
 mod checking;
+mod costly_messages;
 mod expanding;
-mod flat;
+mod longest_steps;
+mod many_rules;
 mod messages;
 mod parts;
 mod policies;
 mod reporting;
 mod sampling;
-mod spelling;
 mod timing;
-mod worst;
 
 use benchmark::{ALL, CHECK, Named, Scale, run};
-use flat::measure_flat;
+use longest_steps::measure_worst;
+use many_rules::measure_flat;
 use messages::Messages;
 use sampling::Samples;
 use std::alloc::Global;
@@ -34,7 +35,6 @@ use std::process::ExitCode;
 use std::rt::Clock;
 use std::time::Instant;
 use std::{env, io};
-use worst::measure_worst;
 
 /// The most calls that may be asked for.
 const MOST_CALLS: u64 = 100_000_000_000;

@@ -1,16 +1,13 @@
 //! The report of a recording of many packets that all go to one slice.
 
-ghost use Rattle.recording.specs.Recordings.{IsItem};
-ghost use Rattle.std.specs.List.{All};
-ghost use Rattle.std.specs.Prelude.{length};
+ghost use Rattle.recording.specs.declared.item.Item.{Item};
+ghost use Rattle.recording.specs.Recordings.{read_items};
+ghost use Rattle.std.specs.Prelude.{◌≡◌, List, length, Ok};
 
 use crate::policies::load;
 use flowspace::Policy;
 use fv_base::NeverSink;
-use fv_report::report_items;
-use recording::{
-    BYTE_LIMIT, Item, SLICE_UP, SWITCH_BYTES, SWITCH_UP, add_item, begin_recording, items,
-};
+use recording::{BYTE_LIMIT, SLICE_UP, SWITCH_BYTES, SWITCH_UP, accept, add_item, begin_recording};
 use std::alloc::{AllocError, Global};
 
 const POLICY: &str = "\
@@ -95,17 +92,12 @@ pub fn recording_of(alloc: Global, keeping: Keeping, count: u64) -> Result<Vec<u
     Ok(out)
 }
 
-/// Writes the report of these records of a recording, and counts its bytes.
-pub fn write_report(
-    alloc: Global,
-    policy: &Policy,
-    recording: &[u8],
-    items: &[Item],
-) -> Result<u64, AllocError>
-    requires { All (IsItem (length policy.now.slices) recording.now) items.now }
+/// Writes the report of a recording, and counts its bytes.
+pub fn write_report(alloc: Global, policy: &Policy, recording: &[u8]) -> Result<u64, AllocError>
+    requires { (items : List Item) × (read_items (length policy.now.slices) recording.now ≡ Ok items) }
 {
     let mut out = NeverSink::new();
-    match report_items(alloc, policy, recording, items, &mut out) {
+    match fv_report::report(alloc, policy, recording, &mut out) {
         Ok(()) => Ok(out.taken()),
         Err(_) => Err(AllocError),
     }
@@ -115,9 +107,9 @@ pub fn write_report(
 pub fn report(alloc: Global, keeping: Keeping, count: u64) -> Result<u64, AllocError> {
     let policy = load(alloc, POLICY)?;
     let recording = recording_of(alloc, keeping, count)?;
-    let Ok(items) = items(alloc, &recording, policy.slice_count()) else {
+    let Ok(()) = accept(&recording, policy.slice_count()) else {
         return Err(AllocError);
     };
-    let bytes = write_report(alloc, &policy, &recording, &items)?;
+    let bytes = write_report(alloc, &policy, &recording)?;
     Ok(count.min(bytes / LINE))
 }

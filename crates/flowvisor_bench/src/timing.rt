@@ -1,7 +1,7 @@
 //! A desk whose steps are timed.
 
+use crate::costly_messages::features;
 use crate::policies::{crowded, load};
-use crate::spelling::features;
 use proxy_core::{Desk, Dest, Event, Taken, Timed};
 use std::alloc::{AllocError, Global};
 use std::io;

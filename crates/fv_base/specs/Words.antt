@@ -4,7 +4,7 @@ use Rattle.std.specs.List.{list_all}
 use Rattle.std.specs.Str.{bytes_eq}
 use Rattle.std.specs.Str.Parse.{digits_value}
 use Rattle.fv_base.specs.declared.words.Form.{Form}
-use Rattle.fv_base.specs.declared.words.Form.TheVariants.{Check, Replay, Gen, Serve}
+use Rattle.fv_base.specs.declared.words.Form.TheVariants.{Check, Replay, Gen, Serve, Virtual, Change, Flatten, Audit, Trace}
 
 -- a form with the bytes of its texts
 pub data FormBytes : Type 0 where
@@ -12,6 +12,11 @@ pub data FormBytes : Type 0 where
   OfReplay : (policy recording : List ℕ) → FormBytes
   OfGen : (seed count : ℕ) → FormBytes
   OfServe : (policy listen : List ℕ) (count : ℕ) → FormBytes
+  OfVirtual : (policy recording : List ℕ) → FormBytes
+  OfChange : (old new recording : List ℕ) → FormBytes
+  OfFlatten : (outer name inner : List ℕ) → FormBytes
+  OfAudit : (policy trace : List ℕ) → FormBytes
+  OfTrace : (policy recording : List ℕ) → FormBytes
 
 -- not empty, and no beginning with `-`
 abbrev pub is_plain : List ℕ → Bool
@@ -54,9 +59,21 @@ connections_of word = within 1 1000000000 (number_of word)
 abbrev pub check_of : List ℕ → List ℕ → Option FormBytes
 check_of command policy = if bytes_eq command (codes "check") && is_plain policy then Some (OfCheck policy) else None
 
--- two words that follow `replay`: `replay POLICY RECORDING`
-abbrev pub replay_of : List ℕ → List ℕ → Option FormBytes
-replay_of policy recording = if is_plain policy && is_plain recording then Some (OfReplay policy recording) else None
+-- a command and two texts: `replay POLICY RECORDING`, `virtual POLICY RECORDING`, `audit POLICY TRACE`, `trace POLICY RECORDING`
+abbrev pub of_two : List ℕ → List ℕ → List ℕ → Option FormBytes
+of_two command first second =
+    if bytes_eq command (codes "replay") then Some (OfReplay first second)
+    else if bytes_eq command (codes "virtual") then Some (OfVirtual first second)
+    else if bytes_eq command (codes "audit") then Some (OfAudit first second)
+    else if bytes_eq command (codes "trace") then Some (OfTrace first second)
+    else None
+
+-- a command and three texts: `change OLD NEW RECORDING`, `flatten OUTER NAME INNER`
+abbrev pub of_three : List ℕ → List ℕ → List ℕ → List ℕ → Option FormBytes
+of_three command first second third =
+    if bytes_eq command (codes "change") then Some (OfChange first second third)
+    else if bytes_eq command (codes "flatten") then Some (OfFlatten first second third)
+    else None
 
 -- two words that follow `gen`, which may be numbers: `gen SEED COUNT`
 abbrev pub gen_of : Option ℕ → Option ℕ → Option FormBytes
@@ -66,18 +83,28 @@ gen_of (Some seed) (Some count) = Some (OfGen seed count)
 
 -- the form of three words
 abbrev pub three_of : List ℕ → List ℕ → List ℕ → Option FormBytes
-three_of command second third = if bytes_eq command (codes "replay") then replay_of second third else if bytes_eq command (codes "gen") then gen_of (seed_of second) (rounds_of third) else None
+three_of command second third =
+    if bytes_eq command (codes "gen") then gen_of (seed_of second) (rounds_of third)
+    else if is_plain second && is_plain third then of_two command second third
+    else None
 
--- the form of four words, of which the last may be a number: `serve POLICY LISTEN COUNT`
-abbrev pub serve_of : List ℕ → List ℕ → List ℕ → Option ℕ → Option FormBytes
-serve_of command policy listen None = None
-serve_of command policy listen (Some count) = if bytes_eq command (codes "serve") && is_plain policy && is_plain listen then Some (OfServe policy listen count) else None
+-- three words that follow `serve`, of which the last may be a number: `serve POLICY LISTEN COUNT`
+abbrev pub serve_of : List ℕ → List ℕ → Option ℕ → Option FormBytes
+serve_of policy listen None = None
+serve_of policy listen (Some count) = if is_plain policy && is_plain listen then Some (OfServe policy listen count) else None
+
+-- the form of four words
+abbrev pub four_of : List ℕ → List ℕ → List ℕ → List ℕ → Option FormBytes
+four_of command second third fourth =
+    if bytes_eq command (codes "serve") then serve_of second third (connections_of fourth)
+    else if is_plain second && is_plain third && is_plain fourth then of_three command second third fourth
+    else None
 
 -- the form of the words
 abbrev pub form_of : List (List ℕ) → Option FormBytes
 form_of (command ∷ policy ∷ []) = check_of command policy
 form_of (command ∷ second ∷ third ∷ []) = three_of command second third
-form_of (command ∷ policy ∷ listen ∷ count ∷ []) = serve_of command policy listen (connections_of count)
+form_of (command ∷ second ∷ third ∷ fourth ∷ []) = four_of command second third fourth
 form_of _ = None
 
 -- a form as its bytes
@@ -86,6 +113,11 @@ form_bytes (Check policy) = OfCheck policy.now
 form_bytes (Replay policy recording) = OfReplay policy.now recording.now
 form_bytes (Gen seed count) = OfGen seed count
 form_bytes (Serve policy listen count) = OfServe policy.now listen.now count
+form_bytes (Virtual policy recording) = OfVirtual policy.now recording.now
+form_bytes (Change old new recording) = OfChange old.now new.now recording.now
+form_bytes (Flatten outer name inner) = OfFlatten outer.now name.now inner.now
+form_bytes (Audit policy trace) = OfAudit policy.now trace.now
+form_bytes (Trace policy recording) = OfTrace policy.now recording.now
 
 -- whether the first word asks for `serve`
 abbrev pub is_serve : List (List ℕ) → Bool

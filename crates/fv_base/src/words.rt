@@ -4,7 +4,7 @@ ghost use Rattle.std.specs.Prelude.{◌≡◌, [], ◌∷◌, ◌++◌, OnOk, On
 ghost use Rattle.std.specs.Result.{result_ok};
 ghost use Rattle.std.specs.Option.{option_map};
 ghost use Rattle.std.specs.List.{list_all};
-ghost use Rattle.fv_base.specs.Words.{check_of, connections_of, form_of, form_bytes, gen_of, is_digit, is_number, is_plain, is_serve, number_of, replay_of, rounds_of, seed_of, serve_of, three_of, within};
+ghost use Rattle.fv_base.specs.Words.{check_of, connections_of, form_of, form_bytes, four_of, gen_of, is_digit, is_number, is_plain, is_serve, number_of, of_three, of_two, rounds_of, seed_of, serve_of, three_of, within};
 
 use std::alloc::{AllocError, Global};
 use std::marker::Model;
@@ -69,6 +69,36 @@ pub enum Form<'a> {
         listen: &'a str,
         count: u32,
     },
+    /// Say of each message of a slice that writes to its flow table whether the slice's own table stays true
+    /// to the switch's, as the recording runs under the policy; both are paths.
+    Virtual {
+        policy: &'a str,
+        recording: &'a str,
+    },
+    /// Say which entries have to go where the new policy follows the old one, after the recording ran under
+    /// the old one; all are paths.
+    Change {
+        old: &'a str,
+        new: &'a str,
+        recording: &'a str,
+    },
+    /// Print the policy in which the slice of this name in the outer policy is divided by the inner one; the
+    /// policies are paths.
+    Flatten {
+        outer: &'a str,
+        name: &'a str,
+        inner: &'a str,
+    },
+    /// Say whether the policy permits all that was sent in the trace; both are paths.
+    Audit {
+        policy: &'a str,
+        trace: &'a str,
+    },
+    /// Write the trace of the recording under the policy; both are paths.
+    Trace {
+        policy: &'a str,
+        recording: &'a str,
+    },
 }
 
 /// Why the words ask for nothing.
@@ -87,7 +117,7 @@ pub fn read_words(words: &Words) -> Result<Form<'_>, WordsFault>
         [_] => Err(WordsFault::Usage),
         [command, policy] => check(command, policy),
         [command, second, third] => three(command, second, third),
-        [command, policy, listen, count] => serve(command, policy, listen, count),
+        [command, second, third, fourth] => four(command, second, third, fourth),
         [_, _, _, _, _, ..] => Err(WordsFault::Usage),
     }
 }
@@ -115,22 +145,78 @@ fn check<'a>(command: &str, policy: &'a str) -> Result<Form<'a>, WordsFault>
 fn three<'a>(command: &str, second: &'a str, third: &'a str) -> Result<Form<'a>, WordsFault>
     ensures { option_map form_bytes (result_ok result) ≡ three_of command.now second.now third.now }
 {
-    if command == "replay" {
-        replay(second, third)
-    } else if command == "gen" {
+    if command == "gen" {
         generate(second, third)
+    } else if is_plain(second) && is_plain(third) {
+        of_two(command, second, third)
     } else {
         Err(WordsFault::Usage)
     }
 }
 
-fn replay<'a>(policy: &'a str, recording: &'a str) -> Result<Form<'a>, WordsFault>
-    ensures { option_map form_bytes (result_ok result) ≡ replay_of policy.now recording.now }
+fn four<'a>(
+    command: &str,
+    second: &'a str,
+    third: &'a str,
+    fourth: &'a str,
+) -> Result<Form<'a>, WordsFault>
+    ensures { option_map form_bytes (result_ok result) ≡ four_of command.now second.now third.now fourth.now }
 {
-    if is_plain(policy) && is_plain(recording) {
-        Ok(Form::Replay { policy, recording })
+    if command == "serve" {
+        serve(second, third, fourth)
+    } else if is_plain(second) && is_plain(third) && is_plain(fourth) {
+        of_three(command, second, third, fourth)
     } else {
         Err(WordsFault::Usage)
+    }
+}
+
+// The form of a command and two texts.
+fn of_two<'a>(command: &str, first: &'a str, second: &'a str) -> Result<Form<'a>, WordsFault>
+    ensures { option_map form_bytes (result_ok result) ≡ of_two command.now first.now second.now }
+{
+    match command {
+        "replay" => Ok(Form::Replay {
+            policy: first,
+            recording: second,
+        }),
+        "virtual" => Ok(Form::Virtual {
+            policy: first,
+            recording: second,
+        }),
+        "audit" => Ok(Form::Audit {
+            policy: first,
+            trace: second,
+        }),
+        "trace" => Ok(Form::Trace {
+            policy: first,
+            recording: second,
+        }),
+        _ => Err(WordsFault::Usage),
+    }
+}
+
+// The form of a command and three texts.
+fn of_three<'a>(
+    command: &str,
+    first: &'a str,
+    second: &'a str,
+    third: &'a str,
+) -> Result<Form<'a>, WordsFault>
+    ensures { option_map form_bytes (result_ok result) ≡ of_three command.now first.now second.now third.now }
+{
+    match command {
+        "change" => Ok(Form::Change {
+            old: first,
+            new: second,
+            recording: third,
+        }),
+        "flatten" => Ok(Form::Flatten {
+            outer: first,
+            name: second,
+            inner: third,
+        }),
+        _ => Err(WordsFault::Usage),
     }
 }
 
@@ -146,18 +232,13 @@ fn generate<'a>(seed: &str, count: &str) -> Result<Form<'a>, WordsFault>
     Ok(Form::Gen { seed, count })
 }
 
-fn serve<'a>(
-    command: &str,
-    policy: &'a str,
-    listen: &'a str,
-    count: &str,
-) -> Result<Form<'a>, WordsFault>
-    ensures { option_map form_bytes (result_ok result) ≡ serve_of command.now policy.now listen.now (connections_of count.now) }
+fn serve<'a>(policy: &'a str, listen: &'a str, count: &str) -> Result<Form<'a>, WordsFault>
+    ensures { option_map form_bytes (result_ok result) ≡ serve_of policy.now listen.now (connections_of count.now) }
 {
     let Some(count) = connections(count) else {
         return Err(WordsFault::Usage);
     };
-    if command == "serve" && is_plain(policy) && is_plain(listen) {
+    if is_plain(policy) && is_plain(listen) {
         Ok(Form::Serve {
             policy,
             listen,

@@ -2,15 +2,17 @@
 use Rattle.std.proofs.Common.{ℕ, ◌≡◌, ◌≤◌, ◌<◌, List, length, refl, sym, ap, ◌∙◌, subst, Option, Some, None, Result, Ok, Err, inl, inr, arith}
 use Rattle.std.specs.Prelude.{◌⊎◌, IfSome}
 use Rattle.fv_base.specs.Told.{Rose}
-use Rattle.fv_base.specs.Words.{FormBytes, OfCheck, OfReplay, OfGen, OfServe}
+use Rattle.fv_base.specs.Words.{FormBytes, OfCheck, OfReplay, OfGen, OfServe, OfVirtual, OfChange, OfFlatten, OfAudit, OfTrace}
 use Rattle.flowspace.specs.Policies.{PolicyView}
 use Rattle.policy_text.specs.declared.fault.ReadFault as text
 use Rattle.policy_text.specs.Documents.{document_of, policy_of}
 use Rattle.recording.specs.declared.fault.RecordingFault.{RecordingFault}
-use Rattle.recording.specs.Recordings.{read_items}
+use Rattle.recording.specs.Recordings.{Told, read_items}
+use Rattle.desk_words.specs.Reports.{report}
 use Rattle.fv_cli.specs.declared.ending.Ending.{Ending}
 use Rattle.fv_cli.specs.declared.ending.Ending.TheVariants.{Done, Usage, ReadFault, WriteFault, NoMemory, NoMemoryToRun, TooLarge, PolicyRefused, RecordingRefused}
-use Rattle.fv_cli.specs.Endings.{ending_status, policy_limit, recording_limit, PassesLimit, WereRead, PolicySays, HasPolicy, RecordingFails, Outside, IsCheckCause, IsReplayCause, IsGenEnding, Causes, IsReadyPolicy, IsReadyRecording, Completes}
+use Rattle.fv_cli.specs.Endings.{ending_status, policy_limit, recording_limit, PassesLimit, WereRead, PolicySays, HasPolicy, RecordingFails, Outside, WithPolicy, WithRecording, WriteOf, RunOf, IsWriteEnding, IsRunEnding, IsGenEnding, Causes, IsReadyPolicy, IsReadyRecording, Completes}
+use Rattle.fv_cli.specs.Lines.{accepted_line}
 use Rattle.fv_cli.proofs.Making.{same_Ok}
 
 -- all was done, or memory ran out
@@ -41,37 +43,61 @@ fails_not w recording slices fault ready (bytes, read, fails) =
     let same : Err fault ≡ Ok ready.items = sym fails ∙ ap (read_items slices) (read_whole recording_limit (w.files recording) ready.bytes bytes ready.told read) ∙ ready.records in
     absurd (cc)
 
-check_is_fine : (w : Outside) (policy : List ℕ) (p : PolicyView) → IsReadyPolicy w policy p → (Rose w.put_before w.put_after → ⊥) → (ending : Ending) → IsCheckCause w policy ending → IsFine ending
-check_is_fine w policy p ready calm Done cause = inl refl
-check_is_fine w policy p ready calm Usage cause = absurd cause
-check_is_fine w policy p ready calm ReadFault cause = absurd (ready.calm cause)
-check_is_fine w policy p ready calm WriteFault (q, has, some, rose) = absurd (calm rose)
-check_is_fine w policy p ready calm NoMemory cause = inr refl
-check_is_fine w policy p ready calm NoMemoryToRun cause = absurd cause
-check_is_fine w policy p ready calm TooLarge cause = absurd (passes_not policy_limit (w.files policy) ready.bytes ready.told ready.within cause)
-check_is_fine w policy p ready calm (PolicyRefused fault) cause = absurd (refused_not w policy p fault ready cause)
-check_is_fine w policy p ready calm (RecordingRefused fault) cause = absurd cause
+-- a policy that is ready is had, and what follows decides
+policy_is_fine : (w : Outside) (policy : List ℕ) (p : PolicyView) (More : PolicyView → Ending → Type 0) → IsReadyPolicy w policy p → ((ending : Ending) → More p ending → IsFine ending) → (ending : Ending) → WithPolicy w policy More ending → IsFine ending
+policy_is_fine w policy p More ready then ending (inr (q, has, more)) = then ending (subst (λ (some : PolicyView). More some ending) (same_policy w policy p q ready has) more)
+policy_is_fine w policy p More ready then Done (inl cause) = absurd cause
+policy_is_fine w policy p More ready then Usage (inl cause) = absurd cause
+policy_is_fine w policy p More ready then ReadFault (inl cause) = absurd (ready.calm cause)
+policy_is_fine w policy p More ready then WriteFault (inl cause) = absurd cause
+policy_is_fine w policy p More ready then NoMemory (inl cause) = inr refl
+policy_is_fine w policy p More ready then NoMemoryToRun (inl cause) = absurd cause
+policy_is_fine w policy p More ready then TooLarge (inl cause) = absurd (passes_not policy_limit (w.files policy) ready.bytes ready.told ready.within cause)
+policy_is_fine w policy p More ready then (PolicyRefused fault) (inl cause) = absurd (refused_not w policy p fault ready cause)
+policy_is_fine w policy p More ready then (RecordingRefused fault) (inl cause) = absurd cause
 
-replay_is_fine : (w : Outside) (policy recording : List ℕ) (p : PolicyView) → IsReadyPolicy w policy p → IsReadyRecording w recording (length p.slices) → (Rose w.put_before w.put_after → ⊥) → (ending : Ending) → IsReplayCause w policy recording ending → IsFine ending
-replay_is_fine w policy recording p ready run calm Done cause = inl refl
-replay_is_fine w policy recording p ready run calm Usage cause = absurd cause
-replay_is_fine w policy recording p ready run calm ReadFault (inl rose) = absurd (ready.calm rose)
-replay_is_fine w policy recording p ready run calm ReadFault (inr (q, has, rose)) = absurd (run.calm rose)
-replay_is_fine w policy recording p ready run calm WriteFault (q, has, some, rose) = absurd (calm rose)
-replay_is_fine w policy recording p ready run calm NoMemory cause = inr refl
-replay_is_fine w policy recording p ready run calm NoMemoryToRun cause = inr refl
-replay_is_fine w policy recording p ready run calm TooLarge (inl passes) = absurd (passes_not policy_limit (w.files policy) ready.bytes ready.told ready.within passes)
-replay_is_fine w policy recording p ready run calm TooLarge (inr (q, has, passes)) = absurd (passes_not recording_limit (w.files recording) run.bytes run.told run.within passes)
-replay_is_fine w policy recording p ready run calm (PolicyRefused fault) cause = absurd (refused_not w policy p fault ready cause)
-replay_is_fine w policy recording p ready run calm (RecordingRefused fault) (q, has, fails) =
-    absurd (fails_not w recording (length p.slices) fault run (subst (λ (policy : PolicyView). RecordingFails (length policy.slices) fault (w.files recording)) (same_policy w policy p q ready has) fails))
+-- a recording likewise
+recording_is_fine : (w : Outside) (recording : List ℕ) (slices : ℕ) (More : List Told → Ending → Type 0) → IsReadyRecording w recording slices → ((records : List Told) (ending : Ending) → More records ending → IsFine ending) → (ending : Ending) → WithRecording w recording slices More ending → IsFine ending
+recording_is_fine w recording slices More ready then ending (inr (bytes, items, has, more)) = then _ ending more
+recording_is_fine w recording slices More ready then Done (inl cause) = absurd cause
+recording_is_fine w recording slices More ready then Usage (inl cause) = absurd cause
+recording_is_fine w recording slices More ready then ReadFault (inl cause) = absurd (ready.calm cause)
+recording_is_fine w recording slices More ready then WriteFault (inl cause) = absurd cause
+recording_is_fine w recording slices More ready then NoMemory (inl cause) = inr refl
+recording_is_fine w recording slices More ready then NoMemoryToRun (inl cause) = absurd cause
+recording_is_fine w recording slices More ready then TooLarge (inl cause) = absurd (passes_not recording_limit (w.files recording) ready.bytes ready.told ready.within cause)
+recording_is_fine w recording slices More ready then (PolicyRefused fault) (inl cause) = absurd cause
+recording_is_fine w recording slices More ready then (RecordingRefused fault) (inl cause) = absurd (fails_not w recording slices fault ready cause)
+
+-- what is written where the output's count didn't rise
+write_is_fine : (text : List ℕ) (before after : Option (List ℕ)) (count_before count_after : ℕ) → (Rose count_before count_after → ⊥) → (ending : Ending) → IsWriteEnding text before after count_before count_after ending → IsFine ending
+write_is_fine text before after count_before count_after calm Done cause = inl refl
+write_is_fine text before after count_before count_after calm Usage cause = absurd cause
+write_is_fine text before after count_before count_after calm ReadFault cause = absurd cause
+write_is_fine text before after count_before count_after calm WriteFault (some, rose) = absurd (calm rose)
+write_is_fine text before after count_before count_after calm NoMemory cause = absurd cause
+write_is_fine text before after count_before count_after calm NoMemoryToRun cause = absurd cause
+write_is_fine text before after count_before count_after calm TooLarge cause = absurd cause
+write_is_fine text before after count_before count_after calm (PolicyRefused fault) cause = absurd cause
+write_is_fine text before after count_before count_after calm (RecordingRefused fault) cause = absurd cause
+
+run_is_fine : (text : List ℕ) (before after : Option (List ℕ)) (count_before count_after : ℕ) → (Rose count_before count_after → ⊥) → (ending : Ending) → IsRunEnding text before after count_before count_after ending → IsFine ending
+run_is_fine text before after count_before count_after calm NoMemoryToRun cause = inr refl
+run_is_fine text before after count_before count_after calm Done cause = write_is_fine text before after count_before count_after calm Done cause
+run_is_fine text before after count_before count_after calm Usage cause = absurd cause
+run_is_fine text before after count_before count_after calm ReadFault cause = absurd cause
+run_is_fine text before after count_before count_after calm WriteFault cause = write_is_fine text before after count_before count_after calm WriteFault cause
+run_is_fine text before after count_before count_after calm NoMemory cause = absurd cause
+run_is_fine text before after count_before count_after calm TooLarge cause = absurd cause
+run_is_fine text before after count_before count_after calm (PolicyRefused fault) cause = absurd cause
+run_is_fine text before after count_before count_after calm (RecordingRefused fault) cause = absurd cause
 
 gen_is_fine : (text : List ℕ) (before after : Option (List ℕ)) (count_before count_after : ℕ) → (Rose count_before count_after → ⊥) → (ending : Ending) → IsGenEnding text before after count_before count_after ending → IsFine ending
+gen_is_fine text before after count_before count_after calm NoMemory cause = inr refl
 gen_is_fine text before after count_before count_after calm Done cause = inl refl
 gen_is_fine text before after count_before count_after calm Usage cause = absurd cause
 gen_is_fine text before after count_before count_after calm ReadFault cause = absurd cause
 gen_is_fine text before after count_before count_after calm WriteFault (some, rose) = absurd (calm rose)
-gen_is_fine text before after count_before count_after calm NoMemory cause = inr refl
 gen_is_fine text before after count_before count_after calm NoMemoryToRun cause = inr refl
 gen_is_fine text before after count_before count_after calm TooLarge cause = absurd cause
 gen_is_fine text before after count_before count_after calm (PolicyRefused fault) cause = absurd cause
@@ -80,7 +106,15 @@ gen_is_fine text before after count_before count_after calm (RecordingRefused fa
 -- an ending that has its cause completes the call
 pub completes : (w : Outside) (form : Option FormBytes) (ending : Ending) → Causes w form ending → Completes w form (ending_status ending)
 completes w None ending cause ready calm = absurd ready
-completes w (Some (OfCheck policy)) ending cause (p, ready) calm = check_is_fine w policy p ready calm ending cause
-completes w (Some (OfReplay policy recording)) ending cause (p, ready, run) calm = replay_is_fine w policy recording p ready run calm ending cause
+completes w (Some (OfCheck policy)) ending cause (p, ready, more) calm =
+    policy_is_fine w policy p (λ q. WriteOf w (accepted_line q)) ready (write_is_fine (accepted_line p) w.out_before w.out_after w.put_before w.put_after calm) ending cause
+completes w (Some (OfReplay policy recording)) ending cause (p, ready, run) calm =
+    policy_is_fine w policy p (λ q. WithRecording w recording (length q.slices) (λ records. RunOf w (report q records))) ready
+    (recording_is_fine w recording (length p.slices) (λ records. RunOf w (report p records)) run (λ records. run_is_fine (report p records) w.out_before w.out_after w.put_before w.put_after calm)) ending cause
 completes w (Some (OfGen seed count)) ending cause ready calm = gen_is_fine _ w.out_before w.out_after w.put_before w.put_after calm ending cause
 completes w (Some (OfServe policy listen count)) ending cause ready calm = absurd ready
+completes w (Some (OfVirtual policy recording)) ending cause ready calm = absurd ready
+completes w (Some (OfChange old new recording)) ending cause ready calm = absurd ready
+completes w (Some (OfFlatten outer name inner)) ending cause ready calm = absurd ready
+completes w (Some (OfAudit policy trace)) ending cause ready calm = absurd ready
+completes w (Some (OfTrace policy recording)) ending cause ready calm = absurd ready

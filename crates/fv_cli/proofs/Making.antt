@@ -7,7 +7,7 @@ use Rattle.std.proofs.lemmas.List.{length-append}
 use Rattle.std.proofs.lemmas.Bool.{and_parts}
 use Rattle.recording.specs.Recordings.{Told, head_spelling, record_bytes, magic, placed_record, all_told}
 use Rattle.desk_words.specs.Recorded.{told_by, told_in}
-use Rattle.fv_base.specs.Words.{FormBytes, OfCheck, OfReplay, OfGen, OfServe, replay_of, gen_of, seed_of, rounds_of, number_of, within, serve_of, form_of, is_plain, connections_of}
+use Rattle.fv_base.specs.Words.{FormBytes, OfCheck, OfReplay, OfGen, OfServe, OfVirtual, OfChange, OfFlatten, OfAudit, OfTrace, gen_of, seed_of, rounds_of, number_of, within, serve_of, of_two, of_three, three_of, four_of, form_of, is_plain, connections_of}
 use Rattle.fv_generator.specs.Made.{records_of, recording_of}
 
 pub same_Ok : {A E : Type 0} (result : Result A E) (x y : A) → result ≡ Ok x → result ≡ Ok y → x ≡ y
@@ -58,34 +58,47 @@ most least limit (Some n) = elim (leb least n && leb n limit) as (λ b. (leb lea
   | false ↦ λ is. tt
 ] refl
 
-few_of_check : (b : Bool) (policy : List ℕ) → IsFew (if b then Some (OfCheck policy) else None)
-few_of_check true policy = tt
-few_of_check false policy = tt
+few_if : (b : Bool) (form other : Option FormBytes) → IsFew form → IsFew other → IsFew (if b then form else other)
+few_if true form other few others = few
+few_if false form other few others = others
 
-few_of_replay : (b : Bool) (policy recording : List ℕ) → IsFew (if b then Some (OfReplay policy recording) else None)
-few_of_replay true policy recording = tt
-few_of_replay false policy recording = tt
+few_of_two : (command first second : List ℕ) → IsFew (of_two command first second)
+few_of_two command first second =
+    few_if (bytes_eq command (codes "replay")) (Some (OfReplay first second)) _ tt
+    (few_if (bytes_eq command (codes "virtual")) (Some (OfVirtual first second)) _ tt
+    (few_if (bytes_eq command (codes "audit")) (Some (OfAudit first second)) _ tt
+    (few_if (bytes_eq command (codes "trace")) (Some (OfTrace first second)) None tt tt)))
+
+few_of_three : (command first second third : List ℕ) → IsFew (of_three command first second third)
+few_of_three command first second third =
+    few_if (bytes_eq command (codes "change")) (Some (OfChange first second third)) _ tt
+    (few_if (bytes_eq command (codes "flatten")) (Some (OfFlatten first second third)) None tt tt)
 
 few_of_gen : (seed count : Option ℕ) → IfSome count (λ n. n ≤ 1000000) → IsFew (gen_of seed count)
 few_of_gen None count few = tt
 few_of_gen (Some seed) None few = tt
 few_of_gen (Some seed) (Some count) few = few
 
-few_of_three : (is_replay is_gen : Bool) (second third : List ℕ) → IsFew (if is_replay then replay_of second third else if is_gen then gen_of (seed_of second) (rounds_of third) else None)
-few_of_three true is_gen second third = few_of_replay (is_plain second && is_plain third) second third
-few_of_three false true second third = few_of_gen (seed_of second) (rounds_of third) (most 0 1000000 (number_of third))
-few_of_three false false second third = tt
+few_of_serve : (policy listen : List ℕ) (count : Option ℕ) → IsFew (serve_of policy listen count)
+few_of_serve policy listen None = tt
+few_of_serve policy listen (Some count) = few_if (is_plain policy && is_plain listen) (Some (OfServe policy listen count)) None tt tt
 
-few_of_serve : (command policy listen : List ℕ) (count : Option ℕ) → IsFew (serve_of command policy listen count)
-few_of_serve command policy listen None = tt
-few_of_serve command policy listen (Some count) = elim (bytes_eq command (codes "serve") && is_plain policy && is_plain listen) as (λ b. IsFew (if b then Some (OfServe policy listen count) else None)) [ true ↦ tt | false ↦ tt ]
+few_three : (command second third : List ℕ) → IsFew (three_of command second third)
+few_three command second third =
+    few_if (bytes_eq command (codes "gen")) (gen_of (seed_of second) (rounds_of third)) _ (few_of_gen (seed_of second) (rounds_of third) (most 0 1000000 (number_of third)))
+    (few_if (is_plain second && is_plain third) (of_two command second third) None (few_of_two command second third) tt)
+
+few_four : (command second third fourth : List ℕ) → IsFew (four_of command second third fourth)
+few_four command second third fourth =
+    few_if (bytes_eq command (codes "serve")) (serve_of second third (connections_of fourth)) _ (few_of_serve second third (connections_of fourth))
+    (few_if (is_plain second && is_plain third && is_plain fourth) (of_three command second third fourth) None (few_of_three command second third fourth) tt)
 
 few_words : (words : List (List ℕ)) → IsFew (form_of words)
 few_words [] = tt
 few_words (a ∷ []) = tt
-few_words (command ∷ policy ∷ []) = few_of_check (bytes_eq command (codes "check") && is_plain policy) policy
-few_words (command ∷ second ∷ third ∷ []) = few_of_three (bytes_eq command (codes "replay")) (bytes_eq command (codes "gen")) second third
-few_words (command ∷ policy ∷ listen ∷ count ∷ []) = few_of_serve command policy listen (connections_of count)
+few_words (command ∷ policy ∷ []) = few_if (bytes_eq command (codes "check") && is_plain policy) (Some (OfCheck policy)) None tt tt
+few_words (command ∷ second ∷ third ∷ []) = few_three command second third
+few_words (command ∷ second ∷ third ∷ fourth ∷ []) = few_four command second third fourth
 few_words (a ∷ b ∷ c ∷ d ∷ e ∷ more) = tt
 
 pub few_rounds : (words : List (List ℕ)) (seed count : ℕ) → Some (OfGen seed count) ≡ form_of words → count ≤ 1000000

@@ -1,7 +1,7 @@
 -- How a call of the program ends: its status, its line, and what has to be so for it. All of this is the program's own rule.
 use Rattle.std.specs.Prelude.{◌≡◌, ℕ, ◌<◌, ◌≤◌, ◌⊎◌, List, [], length, codes, Bool, true, false, Option, Some, None, IfSome, Result, Ok, Err}
 use Rattle.fv_base.specs.Told.{appended, IsBeginning, Rose}
-use Rattle.fv_base.specs.Words.{FormBytes, OfCheck, OfReplay, OfGen, OfServe, form_of}
+use Rattle.fv_base.specs.Words.{FormBytes, OfCheck, OfReplay, OfGen, OfServe, OfVirtual, OfChange, OfFlatten, OfAudit, OfTrace, form_of}
 use Rattle.flowspace.specs.Policies.{PolicyView, IsPolicy}
 use Rattle.policy_text.specs.declared.fault.ReadFault as text
 use Rattle.policy_text.specs.Documents.{document_of, policy_of}
@@ -9,7 +9,7 @@ use Rattle.fv_generator.specs.Made.{records_of}
 use Rattle.fv_generator.specs.Policies.{the_policy}
 use Rattle.recording.specs.declared.item.Item.{Item}
 use Rattle.recording.specs.declared.fault.RecordingFault.{RecordingFault}
-use Rattle.recording.specs.Recordings.{read_items}
+use Rattle.recording.specs.Recordings.{Told, read_items}
 use Rattle.fv_report.specs.Writing.{WrotePart}
 use Rattle.desk_words.specs.Recorded.{told_in}
 use Rattle.desk_words.specs.Reports.{report}
@@ -112,55 +112,59 @@ pub record Outside : Type 0 where
 abbrev pub RoseAt : Outside → List ℕ → Type 0
 RoseAt w path = Rose (w.read_before path) (w.read_after path)
 
--- the whole text was written, or its first bytes
-abbrev pub WroteAll : Outside → List ℕ → Type 0
-WroteAll w text = w.out_after ≡ appended w.out_before text
+-- a policy isn't had; or it is had, and more holds of it
+abbrev pub WithPolicy : Outside → List ℕ → (PolicyView → Ending → Type 0) → Ending → Type 0
+WithPolicy w path More ending =
+    IsPolicyCause (w.files path) (w.read_before path) (w.read_after path) ending ⊎ ((p : PolicyView) × HasPolicy p (w.files path) × More p ending)
 
-abbrev pub WroteSome : Outside → List ℕ → Type 0
-WroteSome w text = WrotePart text w.out_before w.out_after
+-- a recording isn't had under so many slices; or it is had, and more holds of what it tells
+abbrev pub WithRecording : Outside → List ℕ → ℕ → (List Told → Ending → Type 0) → Ending → Type 0
+WithRecording w path slices More ending =
+    IsRecordingCause slices (w.files path) (w.read_before path) (w.read_after path) ending
+    ⊎ ((bytes : List ℕ) × (items : List Item) × HasRecording slices (w.files path) bytes items × More (told_in bytes items) ending)
 
--- a recording was read that is accepted, and this holds of its report under the policy
-abbrev pub ReportIs : Outside → PolicyView → List ℕ → (List ℕ → Type 0) → Type 0
-ReportIs w p recording Holds =
-    (bytes : List ℕ) × (items : List Item) × HasRecording (length p.slices) (w.files recording) bytes items × Holds (report p (told_in bytes items))
+-- the ending of a call that had only this text to write
+abbrev pub IsWriteEnding : List ℕ → Option (List ℕ) → Option (List ℕ) → ℕ → ℕ → Ending → Type 0
+IsWriteEnding text before after count_before count_after Done = after ≡ appended before text
+IsWriteEnding text before after count_before count_after WriteFault = WrotePart text before after × Rose count_before count_after
+IsWriteEnding text before after count_before count_after _ = ⊥
+
+-- the ending of a run over files that were taken, which writes this text
+abbrev pub IsRunEnding : List ℕ → Option (List ℕ) → Option (List ℕ) → ℕ → ℕ → Ending → Type 0
+IsRunEnding text before after count_before count_after NoMemoryToRun = WrotePart text before after
+IsRunEnding text before after count_before count_after ending = IsWriteEnding text before after count_before count_after ending
+
+abbrev pub WriteOf : Outside → List ℕ → Ending → Type 0
+WriteOf w text ending = IsWriteEnding text w.out_before w.out_after w.put_before w.put_after ending
+
+abbrev pub RunOf : Outside → List ℕ → Ending → Type 0
+RunOf w text ending = IsRunEnding text w.out_before w.out_after w.put_before w.put_after ending
 
 -- the cause of an ending, where the words asked for a check of a policy
 abbrev pub IsCheckCause : Outside → List ℕ → Ending → Type 0
-IsCheckCause w policy Done = (p : PolicyView) × HasPolicy p (w.files policy) × WroteAll w (accepted_line p)
-IsCheckCause w policy WriteFault = (p : PolicyView) × HasPolicy p (w.files policy) × WroteSome w (accepted_line p) × Rose w.put_before w.put_after
-IsCheckCause w policy ending = IsPolicyCause (w.files policy) (w.read_before policy) (w.read_after policy) ending
+IsCheckCause w policy = WithPolicy w policy (λ p. WriteOf w (accepted_line p))
 
--- the cause of an ending, where the words asked for a replay of a recording under a policy
+-- where they asked for a replay of a recording under a policy
 abbrev pub IsReplayCause : Outside → List ℕ → List ℕ → Ending → Type 0
-IsReplayCause w policy recording Done = (p : PolicyView) × HasPolicy p (w.files policy) × ReportIs w p recording (WroteAll w)
-IsReplayCause w policy recording Usage = ⊥
-IsReplayCause w policy recording (PolicyRefused fault) = PolicySays (Err fault) (w.files policy)
-IsReplayCause w policy recording (RecordingRefused fault) = (p : PolicyView) × HasPolicy p (w.files policy) × RecordingFails (length p.slices) fault (w.files recording)
-IsReplayCause w policy recording ReadFault = RoseAt w policy ⊎ ((p : PolicyView) × HasPolicy p (w.files policy) × RoseAt w recording)
-IsReplayCause w policy recording WriteFault = (p : PolicyView) × HasPolicy p (w.files policy) × ReportIs w p recording (WroteSome w) × Rose w.put_before w.put_after
-IsReplayCause w policy recording NoMemory = Unit {0}
-IsReplayCause w policy recording NoMemoryToRun = (p : PolicyView) × HasPolicy p (w.files policy) × ReportIs w p recording (WroteSome w)
-IsReplayCause w policy recording TooLarge = PassesLimit policy_limit (w.files policy) ⊎ ((p : PolicyView) × HasPolicy p (w.files policy) × PassesLimit recording_limit (w.files recording))
-
--- the ending of a run over a policy and a recording that were taken, which has this report
-abbrev pub IsRunEnding : List ℕ → Option (List ℕ) → Option (List ℕ) → ℕ → ℕ → Ending → Type 0
-IsRunEnding text before after count_before count_after Done = after ≡ appended before text
-IsRunEnding text before after count_before count_after WriteFault = WrotePart text before after × Rose count_before count_after
-IsRunEnding text before after count_before count_after NoMemoryToRun = WrotePart text before after
-IsRunEnding text before after count_before count_after _ = ⊥
+IsReplayCause w policy recording = WithPolicy w policy (λ p. WithRecording w recording (length p.slices) (λ records. RunOf w (report p records)))
 
 -- the ending of a call that makes a recording and runs it, which has this summary
 abbrev pub IsGenEnding : List ℕ → Option (List ℕ) → Option (List ℕ) → ℕ → ℕ → Ending → Type 0
 IsGenEnding text before after count_before count_after NoMemory = Unit {0}
 IsGenEnding text before after count_before count_after ending = IsRunEnding text before after count_before count_after ending
 
--- the words decide first: without a form, and with that of `serve`, it is the usage, and nothing else is
+-- the words decide first: without a form, and with that of `serve` or of what isn't done yet, it is the usage, and nothing else is
 abbrev pub Causes : Outside → Option FormBytes → Ending → Type 0
 Causes w None ending = ending ≡ Usage
 Causes w (Some (OfCheck policy)) ending = IsCheckCause w policy ending
 Causes w (Some (OfReplay policy recording)) ending = IsReplayCause w policy recording ending
 Causes w (Some (OfGen seed count)) ending = IsGenEnding (summary the_policy (records_of seed count)) w.out_before w.out_after w.put_before w.put_after ending
 Causes w (Some (OfServe policy listen count)) ending = ending ≡ Usage
+Causes w (Some (OfVirtual policy recording)) ending = ending ≡ Usage
+Causes w (Some (OfChange old new recording)) ending = ending ≡ Usage
+Causes w (Some (OfFlatten outer name inner)) ending = ending ≡ Usage
+Causes w (Some (OfAudit policy trace)) ending = ending ≡ Usage
+Causes w (Some (OfTrace policy recording)) ending = ending ≡ Usage
 
 -- an ending before the run
 abbrev pub is_before_run : Ending → Bool
@@ -213,13 +217,16 @@ pub record IsReadyRecording (w : Outside) (path : List ℕ) (slices : ℕ) : Typ
   pub records : read_items slices bytes ≡ Ok items
   pub calm : RoseAt w path → ⊥
 
--- the words have a form that is not that of `serve`, and the files that they name are ready
+-- the policy at a path is ready, and more is for it
+abbrev pub ReadyPolicy : Outside → List ℕ → (PolicyView → Type 0) → Type 0
+ReadyPolicy w path More = (p : PolicyView) × IsReadyPolicy w path p × More p
+
+-- the words have a form that is done here, and the files that they name are ready
 abbrev pub AreReady : Outside → Option FormBytes → Type 0
-AreReady w None = ⊥
-AreReady w (Some (OfCheck policy)) = (p : PolicyView) × IsReadyPolicy w policy p
-AreReady w (Some (OfReplay policy recording)) = (p : PolicyView) × IsReadyPolicy w policy p × IsReadyRecording w recording (length p.slices)
+AreReady w (Some (OfCheck policy)) = ReadyPolicy w policy (λ p. Unit {0})
+AreReady w (Some (OfReplay policy recording)) = ReadyPolicy w policy (λ p. IsReadyRecording w recording (length p.slices))
 AreReady w (Some (OfGen seed count)) = Unit {0}
-AreReady w (Some (OfServe policy listen count)) = ⊥
+AreReady w _ = ⊥
 
 -- where these are ready and the output's count didn't rise, all was done or memory ran out
 abbrev pub Completes : Outside → Option FormBytes → ℕ → Type 0

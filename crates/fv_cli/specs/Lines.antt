@@ -32,6 +32,7 @@ abbrev pub what_text : What → List ℕ
 what_text what.Slices = codes "slices"
 what_text what.Rules = codes "rules"
 what_text what.Writes = codes "write rules"
+what_text what.Swaps = codes "ports"
 
 abbrev pub improper_text : ℕ → Field → List ℕ
 improper_text rule field = codes "rule " ++ decimal rule ++ codes " improper " ++ field_key field
@@ -42,6 +43,8 @@ refusal_text (refusal.DuplicateSlice slice) = codes "slice " ++ decimal slice ++
 refusal_text (refusal.UnknownSlice rule) = codes "rule " ++ decimal rule ++ codes " names no slice"
 refusal_text (refusal.Improper rule field) = improper_text rule field
 refusal_text (refusal.Overlap first second) = codes "rules " ++ decimal first ++ codes " and " ++ decimal second ++ codes " overlap"
+refusal_text (refusal.UnknownPortSlice port) = codes "port " ++ decimal port ++ codes " names no slice"
+refusal_text (refusal.PortTwice port) = codes "port " ++ decimal port ++ codes " is named twice"
 refusal_text refusal.Memory = codes "no memory"
 
 abbrev pub reading_text : ReadFault → List ℕ

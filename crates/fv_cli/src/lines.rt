@@ -59,6 +59,7 @@ fn what(what: What) -> &'static str
         What::Slices => "slices",
         What::Rules => "rules",
         What::Writes => "write rules",
+        What::Swaps => "ports",
     }
 }
 
@@ -168,6 +169,8 @@ fn refusal<'a>(fault: PolicyFault) -> [Piece<'a>; 5]
         PolicyFault::UnknownSlice(rule) => around("rule ", rule, " names no slice"),
         PolicyFault::Improper(rule, which) => improper(rule, which),
         PolicyFault::Overlap(first, second) => overlap(first, second),
+        PolicyFault::UnknownPortSlice(port) => around("port ", port, " names no slice"),
+        PolicyFault::PortTwice(port) => around("port ", port, " is named twice"),
         PolicyFault::Memory => only("no memory"),
     }
 }

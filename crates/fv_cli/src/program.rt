@@ -181,7 +181,15 @@ fn decide<F: Files, O: Sink>(alloc: Global, words: &Words, files: &mut F, out: &
         Ok(Form::Check { policy }) => check(alloc, policy, files, out),
         Ok(Form::Replay { policy, recording }) => replay(alloc, policy, recording, files, out),
         Ok(Form::Gen { seed, count }) => generate(alloc, seed, count, out),
-        Ok(Form::Serve { .. }) | Err(WordsFault::Usage) => Ending::Usage,
+        Ok(
+            Form::Serve { .. }
+            | Form::Virtual { .. }
+            | Form::Change { .. }
+            | Form::Flatten { .. }
+            | Form::Audit { .. }
+            | Form::Trace { .. },
+        )
+        | Err(WordsFault::Usage) => Ending::Usage,
     }
 }
 

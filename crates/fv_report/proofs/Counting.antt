@@ -4,8 +4,8 @@ use Rattle.std.specs.List.{flat_map, enumerate_from}
 use Rattle.std.specs.Prelude.{IfErr}
 use Rattle.std.specs.Result.{IsErrAnd}
 use Rattle.fv_report.specs.Writing.{CountedFault, Counted}
-use Rattle.fv_report.specs.declared.fault.ReportFault.{ReportFault}
-use Rattle.fv_report.specs.declared.fault.ReportFault.TheVariants.{Memory}
+use Rattle.event_player.specs.declared.fault.ReportFault.{ReportFault}
+use Rattle.event_player.specs.declared.fault.ReportFault.TheVariants.{Memory}
 use Rattle.std.specs.Vec.{with_item}
 use Rattle.std.proofs.lemmas.List.{append-nil, drop_more, length-append, length-set}
 use Rattle.std.proofs.lemmas.List.Sums.{sum_by-append}
@@ -24,8 +24,8 @@ use Rattle.desk_words.specs.Reports.{LinePlace, name_at, speaker, Line, Saying, 
 use Rattle.run_words.specs.Summaries.{lane_messages, slice_messages, event_count, count_line, summary, summary_text}
 use Rattle.fv_report.specs.declared.counter.Count.{Count}
 use Rattle.fv_report.specs.declared.counter.Counter.{Counter}
-use Rattle.fv_report.specs.Telling.{Outcome, ToldWhole, HeardPart}
-use Rattle.fv_report.proofs.Recorded.{same_number, set_get}
+use Rattle.event_player.specs.Telling.{Outcome, ToldWhole, HeardPart}
+use Rattle.event_player.proofs.Recorded.{same_number, set_get}
 use Rattle.fv_report.specs.Counting.{CountsMore, lane_said, slice_in, lane_told_in, slice_told_in, IsCount, HasCounted, CountsLine}
 
 -- ---- what lines tell of
@@ -235,12 +235,6 @@ told_as (Ok value) saying old new holds memory = holds
 told_as (Err fault) saying old new holds memory = memory
 
 -- nothing but want of memory ends what is counted
-pub only_memory : (fault : ReportFault) (lines : List Line) (old new : Counter) → HeardPart (λ was line outcome is. CountsLine line.saying outcome was is) fault old lines new → fault ≡ Memory
-only_memory fault [] old new (same, memory) = memory
-only_memory fault (line ∷ lines) old new (inl (same, memory)) = memory
-only_memory fault (line ∷ lines) old new (inr (inl memory)) = memory
-only_memory fault (line ∷ lines) old new (inr (inr (next, told, others))) = only_memory fault lines next new others
-
 pub nothing_counted : {A : Type 0} (fault : ReportFault) (result : Result A ReportFault) (n : ℕ) → IsErrAnd result (λ e. e ≡ fault) → fault ≡ Memory → Counted result n n
 nothing_counted fault (Err e) n same memory = subst (λ (f : ReportFault). CountedFault f n n) (sym (same ∙ memory)) refl
 nothing_counted fault (Ok value) n same memory = absurd same

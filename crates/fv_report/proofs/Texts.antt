@@ -7,10 +7,10 @@ use Rattle.fv_base.proofs.Appending.{appended_none}
 use Rattle.flowspace.specs.Policies.{PolicyView}
 use Rattle.recording.specs.Recordings.{Told}
 use Rattle.desk_words.specs.Reports.{Line, line_text, last_line, all_lines, report}
-use Rattle.fv_report.specs.declared.fault.ReportFault.{ReportFault}
-use Rattle.fv_report.specs.declared.fault.ReportFault.TheVariants.{Memory}
+use Rattle.event_player.specs.declared.fault.ReportFault.{ReportFault}
+use Rattle.event_player.specs.declared.fault.ReportFault.TheVariants.{Memory}
 use Rattle.fv_report.specs.Writing.{WrotePart, Wrote, CountedFault, Counted}
-use Rattle.fv_report.specs.Telling.{Outcome, ToldWhole, HeardPart}
+use Rattle.event_player.specs.Telling.{Outcome, ToldWhole, HeardPart}
 use Rattle.run_words.specs.Summaries.{event_count}
 use Rattle.fv_report.proofs.Writing.{both, none_of, part_of_first, part_of_second, wrote_second, counted_after, fault_after}
 

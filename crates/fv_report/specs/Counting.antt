@@ -4,9 +4,9 @@ use Rattle.std.specs.List.{flat_map}
 use Rattle.outbox.specs.Queues.{size}
 use Rattle.fv_report.specs.declared.counter.Count.{Count}
 use Rattle.fv_report.specs.declared.counter.Counter.{Counter}
-use Rattle.fv_report.specs.declared.fault.ReportFault.TheVariants.{Memory}
+use Rattle.event_player.specs.declared.fault.ReportFault.TheVariants.{Memory}
 use Rattle.desk_words.specs.Reports.{Line, Saying, Lane, To}
-use Rattle.fv_report.specs.Telling.{Outcome}
+use Rattle.event_player.specs.Telling.{Outcome}
 
 -- a message more was counted
 pub record CountsMore (message : List ℕ) (old new : Count) : Type 0 where
@@ -52,3 +52,6 @@ CountsLine saying (Err fault) old new = fault ≡ Memory
 CountsLine saying (Ok value) old new =
     (slots : ℕ) (lane : List (List ℕ)) (slices : ℕ → List (List ℕ)) → HasCounted slots lane slices old
     → HasCounted slots (lane ++ lane_said saying) (λ slot. slices slot ++ slice_in slot saying) new
+
+abbrev pub Counts : Counter → Line → Outcome → Counter → Type 0
+Counts old line outcome new = CountsLine line.saying outcome old new

@@ -1,11 +1,3 @@
 pub mod Writing
-pub mod Telling
-pub mod Lines
-pub mod Players
 pub mod Counting
-pub mod Holding
-pub mod Taking
-pub mod Streams
-pub mod Plays
-pub mod Switches
 pub mod Digits

@@ -1,8 +1,8 @@
 -- What a call that writes a text leaves on its sink (this proxy's own rule).
 use Rattle.std.specs.Prelude.{◌≡◌, ◌≤◌, ℕ, List, Option, Result, Ok, Err}
 use Rattle.fv_base.specs.Told.{appended, IsBeginning, Rose}
-use Rattle.fv_report.specs.declared.fault.ReportFault.{ReportFault}
-use Rattle.fv_report.specs.declared.fault.ReportFault.TheVariants.{WriteFault, Memory}
+use Rattle.event_player.specs.declared.fault.ReportFault.{ReportFault}
+use Rattle.event_player.specs.declared.fault.ReportFault.TheVariants.{WriteFault, Memory}
 
 -- the first bytes of a text were written, perhaps none
 abbrev pub WrotePart : List ℕ → Option (List ℕ) → Option (List ℕ) → Type 0

@@ -4,8 +4,7 @@ ghost use Rattle.std.specs.Prelude.{ℕ, ◌≡◌, List, [], Ok, OnOk, IfOk, If
 ghost use Rattle.desk_words.specs.Reports.{To};
 ghost use Rattle.fv_report.specs.Counting.{CountsMore, HasCounted, CountsLine};
 
-use crate::fault::ReportFault;
-use crate::teller::{LinePlace, Said, Teller};
+use event_player::{Desk, Event, LinePlace, ReportFault, Said, Teller};
 use std::alloc::{AllocError, Global};
 
 /// How many messages there were, and how many bytes they had together.
@@ -69,9 +68,14 @@ impl Counter {
 }
 
 impl Teller for Counter {
-    ghost use Rattle.fv_report.specs.Counting.{CountsLine};
+    ghost use Rattle.fv_report.specs.Counting.{Counts};
+    ghost use Rattle.event_player.specs.Telling.{ByLine};
 
-    ghost Tells = { λ old line outcome new. CountsLine line.saying outcome old new };
+    ghost Tells = { λ old cue outcome new. ByLine Counts old cue outcome new };
+
+    fn come(&mut self, _: LinePlace, _: u64, _: &Event, _: &Desk) -> Result<(), ReportFault> {
+        Ok(())
+    }
 
     fn tell(&mut self, _: LinePlace, said: Said<'_>) -> Result<(), ReportFault> {
         match said {

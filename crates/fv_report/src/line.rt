@@ -3,13 +3,12 @@
 ghost use Rattle.std.specs.Prelude.{ℕ, ◌≡◌, ◌≤◌, ◌+◌, ◌-◌, ◌*◌, ◌^◌, ◌++◌, OnOk, length, min, take};
 ghost use Rattle.hex.specs.Hex.{encode_lower};
 ghost use Rattle.desk_words.specs.Reports.{place_text, saying_text, line_text, last_line};
-ghost use Rattle.fv_report.specs.Lines.{place_of, saying_of, line_of};
+ghost use Rattle.event_player.specs.Lines.{place_of, saying_of, line_of};
 ghost use Rattle.fv_report.specs.Writing.{Wrote, Counted};
 
 use crate::digits::Digits;
-use crate::fault::ReportFault;
 use crate::number::Tens;
-use crate::teller::{LinePlace, Said, Teller};
+use event_player::{Desk, Event, LinePlace, ReportFault, Said, Teller};
 use fv_base::{Sink, put_all};
 use itoa::Buffer;
 use std::alloc::{AllocError, Global};
@@ -201,8 +200,14 @@ impl<'a, K: Sink> Teller for Writer<'a, K> {
     ghost use Rattle.std.specs.Prelude.{◌≡◌};
     ghost use Rattle.desk_words.specs.Reports.{line_text};
     ghost use Rattle.fv_report.specs.Writing.{Wrote, Counted};
+    ghost use Rattle.event_player.specs.Telling.{ByLine};
 
-    ghost Tells = { λ old line outcome new. (new.out.ghost_name ≡ old.out.ghost_name) × Wrote outcome (line_text line) (K.contents old.out.now) (K.contents new.out.now) × Counted outcome (K.faults old.out.now) (K.faults new.out.now) };
+    ghost Tells = { λ old cue outcome new. ByLine (λ was line told is. (is.out.ghost_name ≡ was.out.ghost_name) × Wrote told (line_text line) (K.contents was.out.now) (K.contents is.out.now) × Counted told (K.faults was.out.now) (K.faults is.out.now)) old cue outcome new };
+
+    #[inline(always)]
+    fn come(&mut self, _: LinePlace, _: u64, _: &Event, _: &Desk) -> Result<(), ReportFault> {
+        Ok(())
+    }
 
     #[inline(always)]
     fn tell(&mut self, place: LinePlace, said: Said<'_>) -> Result<(), ReportFault> {

@@ -9,9 +9,8 @@ ghost use Rattle.fv_report.specs.Counting.{IsCount, AreCounts, HasCounted};
 ghost use Rattle.fv_report.specs.Writing.{Wrote, Counted};
 
 use crate::counter::{Count, Counter};
-use crate::fault::ReportFault;
 use crate::line::put;
-use crate::player::Player;
+use event_player::{Player, ReportFault};
 use flowspace::Policy;
 use fv_base::Sink;
 use itoa::Buffer;

@@ -1,7 +1,7 @@
 -- Causes of a finish, seen at other names of the same moments, and what they say where no count rose.
 use Rattle.std.proofs.Common.{◌≡◌, ◌≤◌, ℕ, List, length, refl, sym, ap, subst, arith, inl, inr, ◌⊎◌, ◌∙◌}
 use Rattle.std.specs.Prelude.{Option, Some, None, Ok, Err}
-use Rattle.fv_base.specs.Words.{FormBytes, OfCheck, OfReplay, OfGen, OfServe}
+use Rattle.fv_base.specs.Words.{FormBytes, OfCheck, OfReplay, OfGen, OfServe, OfVirtual, OfChange, OfFlatten, OfAudit, OfTrace}
 use Rattle.fv_live.specs.Roles.{Role}
 use Rattle.flowspace.specs.Policies.{PolicyView}
 use Rattle.policy_text.specs.declared.fault.ReadFault.{ReadFault}
@@ -58,4 +58,9 @@ complete w a b None finish cause ready = absurd ready
 complete w a b (Some (OfCheck policy)) finish cause ready = absurd ready
 complete w a b (Some (OfReplay policy recording)) finish cause ready = absurd ready
 complete w a b (Some (OfGen seed count)) finish cause ready = absurd ready
+complete w a b (Some (OfVirtual policy recording)) finish cause ready = absurd ready
+complete w a b (Some (OfChange old new recording)) finish cause ready = absurd ready
+complete w a b (Some (OfFlatten outer name inner)) finish cause ready = absurd ready
+complete w a b (Some (OfAudit policy trace)) finish cause ready = absurd ready
+complete w a b (Some (OfTrace policy recording)) finish cause ready = absurd ready
 complete w a b (Some (OfServe policy listen count)) finish cause ready = complete_run w policy count (a listen) (b listen) finish cause ready.0 ready.1

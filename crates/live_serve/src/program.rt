@@ -121,6 +121,11 @@ fn decide<
         Ok(Form::Check { .. }) => Finish::Early(Ending::Usage),
         Ok(Form::Replay { .. }) => Finish::Early(Ending::Usage),
         Ok(Form::Gen { .. }) => Finish::Early(Ending::Usage),
+        Ok(Form::Virtual { .. }) => Finish::Early(Ending::Usage),
+        Ok(Form::Change { .. }) => Finish::Early(Ending::Usage),
+        Ok(Form::Flatten { .. }) => Finish::Early(Ending::Usage),
+        Ok(Form::Audit { .. }) => Finish::Early(Ending::Usage),
+        Ok(Form::Trace { .. }) => Finish::Early(Ending::Usage),
         Err(WordsFault::Usage) => Finish::Early(Ending::Usage),
     }
 }

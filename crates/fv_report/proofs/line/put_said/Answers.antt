@@ -1,7 +1,7 @@
 use Rattle.std.proofs.Common.{◌++◌, length, take, codes, arith, sym, ap, ◌∙◌, append_assoc}
 use Rattle.hex.specs.Hex.{encode_lower}
 use Rattle.desk_words.specs.Reports.{saying_text}
-use Rattle.fv_report.specs.Lines.{saying_of}
+use Rattle.event_player.specs.Lines.{saying_of}
 use Rattle.fv_report.proofs.Sizes.{lane_size, to_size}
 use Rattle.fv_report.proofs.line.put_said.Goals as goal
 

@@ -4,7 +4,7 @@ use Rattle.fv_report.specs.declared.counter.Counter.{Counter}
 use Rattle.desk_words.specs.Reports.{To}
 use Rattle.fv_report.specs.Counting.{CountsLine}
 use Rattle.fv_report.proofs.Counting.{slice_counted, none_counted, ok_so}
-use Rattle.fv_report.proofs.Recorded.{found}
+use Rattle.event_player.proofs.Recorded.{found}
 use Rattle.fv_report.proofs.counter.Counter.add_at.Goals as goal
 
 pub returns-in-Some-clause-added : goal.returns-in-Some-clause-added

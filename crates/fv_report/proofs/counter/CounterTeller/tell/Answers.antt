@@ -1,8 +1,8 @@
 use Rattle.std.proofs.Common.{sym, subst}
 use Rattle.fv_report.specs.declared.counter.Counter.{Counter}
-use Rattle.fv_report.specs.declared.teller.Said.{Said}
+use Rattle.event_player.specs.declared.teller.Said.{Said}
 use Rattle.desk_words.specs.Reports.{Lane, To}
-use Rattle.fv_report.specs.Lines.{saying_of}
+use Rattle.event_player.specs.Lines.{saying_of}
 use Rattle.fv_report.specs.Counting.{CountsLine}
 use Rattle.fv_report.proofs.Counting.{lane_counted, ok_so, told_as}
 use Rattle.fv_report.proofs.counter.CounterTeller.tell.Goals as goal

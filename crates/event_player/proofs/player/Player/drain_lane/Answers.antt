@@ -1,0 +1,40 @@
+use Rattle.std.proofs.Common.{ℕ, [], ◌∷◌, List, Ok, Err, subst}
+use Rattle.desk_words.specs.Reports.{lane_line}
+use Rattle.event_player.specs.Telling.{says}
+use Rattle.event_player.specs.Holding.{Holds}
+use Rattle.event_player.specs.Players.{HasTold}
+use Rattle.event_player.proofs.Players.{told_still}
+use Rattle.event_player.proofs.Draining.{drained_first, drained_more, drained_part, drained_all}
+use Rattle.event_player.proofs.player.Player.drain_lane.Goals as goal
+
+pub loop-message-init : goal.loop-message-init
+loop-message-init g c = record {
+  drained = λ scene h slices lane is holds. drained_first (says g.T.Teller.Tells) scene (λ messages. Holds scene.policy h slices messages c.args.desk.now) (lane_line scene.place) lane c.args.self.now is holds;
+}
+
+pub returns-in_err-say : goal.returns-in_err-say
+returns-in_err-say g c = λ scene h slices lane is holds.
+    let now = c.loop-message.self in
+    let later = c.say.new.self in
+    let d = c.loop-message.invariant.drained scene h slices lane is holds in
+    drained_part (says g.T.Teller.Tells) scene (λ messages. Holds scene.policy h slices messages c.loop-message.desk) (lane_line scene.place) lane c.args.self.now now later c.in-Some.message _ c.from_residual.result d
+    (c.in-Some.ensures.takes scene.policy h slices d.left d.holds).0 c.from_residual.ensures.1
+    (subst (λ (m : List ℕ). HasTold {A = Unit {0}} (says g.T.Teller.Tells) scene (Unit {0}) (Err c.in_err-say.field-0.0) (lane_line scene.place m ∷ []) now later) c.as_slice.ensures.value (c.in_err-say.ensures scene d.told.at))
+
+pub loop-message-preserved : goal.loop-message-preserved
+loop-message-preserved g c = record {
+  drained = λ scene h slices lane is holds.
+      let now = c.loop-message.self in
+      let told = c.say.new.self in
+      let later = c.keep.new.self in
+      let d = c.loop-message.invariant.drained scene h slices lane is holds in
+      let next = c.in-Some.ensures.takes scene.policy h slices d.left d.holds in
+      drained_more (says g.T.Teller.Tells) scene (λ messages. Holds scene.policy h slices messages c.loop-message.desk) (λ messages. Holds scene.policy h slices messages c.next_of_lane.new.desk) (lane_line scene.place) lane c.args.self.now now later c.in-Some.message tt d next.0 next.1
+      (told_still (says g.T.Teller.Tells) scene (Ok tt) (lane_line scene.place c.in-Some.message ∷ []) now told later c.keep.ensures (subst (λ (m : List ℕ). HasTold {A = Unit {0}} (says g.T.Teller.Tells) scene (Unit {0}) (Ok tt) (lane_line scene.place m ∷ []) now told) c.as_slice.ensures.value (c.in_ok-say.ensures scene d.told.at)));
+}
+
+pub returns : goal.returns
+returns g c = λ scene h slices lane is holds.
+    let d = c.loop-message.invariant.drained scene h slices lane is holds in
+    let next = c.in_default.ensures.takes scene.policy h slices d.left d.holds in
+    drained_all (says g.T.Teller.Tells) scene (λ messages. Holds scene.policy h slices messages c.loop-message.desk) (λ messages. Holds scene.policy h slices messages c.next_of_lane.new.desk) (lane_line scene.place) lane c.args.self.now c.loop-message.self tt d next.0 next.1

@@ -1,0 +1,9 @@
+pub mod Telling
+pub mod Lines
+pub mod Players
+pub mod Holding
+pub mod Taking
+pub mod Streams
+pub mod Plays
+pub mod Switches
+pub mod Played
