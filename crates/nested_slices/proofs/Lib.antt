@@ -1,0 +1,13 @@
+pub mod Lists
+pub mod Bits
+pub mod Plain
+pub mod Joining
+pub mod Yielding
+pub mod Placing
+pub mod Writing
+pub mod Beyond
+pub mod Counted
+pub mod Sound
+pub mod Whole
+pub mod Flattened
+pub mod Made

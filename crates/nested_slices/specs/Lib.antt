@@ -1,0 +1,4 @@
+pub mod Flat
+pub mod Space
+pub mod Counting
+pub mod Refused
