@@ -45,7 +45,7 @@ abbrev pub written_rule : ℕ → ℕ → Pattern → Rule
 written_rule priority slot pattern = record { switch = None; priority = priority; pattern = pattern; writer = Some slot; readers = 0 }
 
 abbrev pub policy : PolicyView
-policy = record { slices = slice_named (codes "alice") ∷ slice_named (codes "bob") ∷ []; rules = written_rule 100 0 (tcp_for 80) ∷ written_rule 50 1 (tcp_for 22) ∷ [] }
+policy = record { slices = slice_named (codes "alice") ∷ slice_named (codes "bob") ∷ []; rules = written_rule 100 0 (tcp_for 80) ∷ written_rule 50 1 (tcp_for 22) ∷ []; swaps = [] }
 
 -- ---- the recording
 

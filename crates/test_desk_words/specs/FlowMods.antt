@@ -71,6 +71,7 @@ abbrev pub three_rules : PolicyView
 three_rules = record {
   slices = slice_named (codes "alice") ∷ slice_named (codes "bob") ∷ [];
   rules = written_rule 100 0 (to_net 8 0x0a000000) ∷ written_rule 90 0 from_10 ∷ written_rule 80 0 (record (to_net 8 0x0a000000) { nw_proto = Some 6 }) ∷ [];
+  swaps = [];
 }
 
 -- TCP packets to 10.1/16, and those of them that come from 10/8
@@ -109,6 +110,7 @@ abbrev pub two_nets : PolicyView
 two_nets = record {
   slices = slice_named (codes "alice") ∷ slice_named (codes "bob") ∷ [];
   rules = written_rule 100 0 (to_net 16 0x0a010000) ∷ written_rule 50 1 (to_net 16 0x0a020000) ∷ [];
+  swaps = [];
 }
 
 -- IP packets, and those to 10.1/16

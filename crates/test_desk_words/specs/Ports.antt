@@ -9,6 +9,7 @@ abbrev pub port_policy : PolicyView
 port_policy = record {
   slices = slice_named (codes "alice") ∷ slice_named (codes "bob") ∷ [];
   rules = written_rule 100 0 (record (tcp_for 80) { in_port = Some 1 }) ∷ written_rule 50 1 (tcp_for 22) ∷ [];
+  swaps = [];
 }
 
 -- port 2 is modified: bob alone is told, without a transaction id

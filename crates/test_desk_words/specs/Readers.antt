@@ -9,6 +9,7 @@ abbrev pub reader_policy : PolicyView
 reader_policy = record {
   slices = slice_named (codes "alice") ∷ slice_named (codes "bob") ∷ [];
   rules = written_rule 100 0 (tcp_for 80) ∷ record { switch = None; priority = 10; pattern = all_free; writer = None; readers = 2 } ∷ [];
+  swaps = [];
 }
 
 -- a TCP packet for port 80 reaches alice alone

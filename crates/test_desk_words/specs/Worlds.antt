@@ -20,6 +20,7 @@ other_policy = record {
       ∷ written_rule 3 1 (tcp_for 23)
       ∷ record { switch = None; priority = 1; pattern = all_free; writer = None; readers = 2 }
       ∷ [];
+  swaps = [];
 }
 
 -- TCP packets for port 80 and for port 22

@@ -2,19 +2,19 @@
 #![tactic(auto)]
 
 #[cfg(test)]
-mod calls;
+mod assertions;
+#[cfg(test)]
+mod compared_connections;
 #[cfg(test)]
 mod devices;
-#[cfg(test)]
-mod expectations;
 #[cfg(test)]
 mod gate;
 #[cfg(test)]
 mod notes;
 #[cfg(test)]
-mod parts;
+mod serve_calls;
 #[cfg(test)]
-mod ports;
+mod session_threads;
 #[cfg(test)]
 mod sessions;
 #[cfg(test)]

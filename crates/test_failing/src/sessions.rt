@@ -5,11 +5,11 @@ use crate::devices::{
     ALICE, BOB, Device, GREETING, IN, Long, NOTHING, OUT, SWITCH, Stream, TO_22, TO_80, Told,
     UNANSWERED, told_to_all,
 };
-use crate::expectations::{expect, expect_equal};
 use crate::gate::Hold;
 use crate::notes::{Mark, Notes};
-use crate::parts::{End, Job, Part, Session};
+use crate::session_threads::{End, Job, Part, Session};
 use crate::sinks::{Watched, link};
+use expectations::{expect, expect_eq};
 use fv_live::{Host, Links, MemoryDialer, MemorySource};
 use live_samples::{FEATURES, LANE, Sent, nothing};
 use live_session::{DeskObject, ReaderEnd, Side, SliceEnd, WriterEnd};
@@ -430,14 +430,9 @@ fn run<R: Host + Net<Listener = TcpListener, Stream = TcpStream> + Abort + Send 
     case: &Case,
 ) -> Result<(), Fail> {
     let outcome = come_of(rt, alloc, case)?;
-    expect_equal(
-        &rt,
-        &outcome.ends.as_slice(),
-        &case.ends.as_slice(),
-        &"ends",
-    );
-    expect_equal(&rt, &outcome.told, &[Told::All; 3], &"sent");
-    expect(&rt, outcome.is_right, &"what came");
+    expect_eq!(rt; outcome.ends.as_slice(), case.ends.as_slice(), "ends");
+    expect_eq!(rt; outcome.told, [Told::All; 3], "sent");
+    expect!(rt; outcome.is_right, "what came");
     Ok(())
 }
 

@@ -1,4 +1,4 @@
-use crate::expectations::expect_eq;
+use expectations::expect_eq;
 use fv_base::{Failed, MemorySink};
 use fv_live::{Dialer, Link, Links, MemoryDialer, MemorySource, MemoryWires, Source, Wires};
 use std::alloc::{AllocError, Global};

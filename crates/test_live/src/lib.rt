@@ -3,13 +3,13 @@
 #![tactic(auto)]
 
 #[cfg(test)]
-mod connections;
+mod assertions;
 #[cfg(test)]
-mod expectations;
+mod connections;
 #[cfg(test)]
 mod notes;
 #[cfg(test)]
-mod tests;
+mod sources_and_sinks;
 #[cfg(test)]
 mod turns;
 #[cfg(test)]

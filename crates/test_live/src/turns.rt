@@ -5,8 +5,8 @@ mod counter;
 ghost use Rattle.std.specs.Prelude.{IfOk};
 ghost use Rattle.turn_desk.specs.Seats.{IsSeatOf, SameDesk};
 
-use crate::expectations::{expect, expect_eq};
 use counter::Counter;
+use expectations::{expect, expect_eq};
 use std::alloc::{AllocError, Global};
 use std::sync::Wait;
 use std::test::Fail;

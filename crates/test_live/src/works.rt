@@ -1,5 +1,5 @@
-use crate::expectations::{expect, expect_eq};
 use crate::notes::Note;
+use expectations::{expect, expect_eq};
 use fv_base::Failed;
 use fv_live::{MemorySpawner, SharedBytes, Spawner, Work};
 use std::sync::Arc;

@@ -3,6 +3,6 @@
 #![tactic(auto)]
 
 #[cfg(test)]
-mod expectations;
+mod assertions;
 #[cfg(test)]
 mod tests;

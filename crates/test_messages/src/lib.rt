@@ -7,7 +7,7 @@
 #![tactic(auto)]
 
 #[cfg(test)]
-mod expectations;
+mod assertions;
 #[cfg(test)]
 mod readings;
 #[cfg(test)]

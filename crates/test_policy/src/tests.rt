@@ -1,4 +1,5 @@
 mod given;
 mod policies;
 mod questions;
+mod swaps;
 mod texts;

@@ -3,9 +3,9 @@
 #![tactic(auto)]
 
 #[cfg(test)]
-mod expectations;
+mod assertions;
 #[cfg(test)]
-mod filled;
+mod full_queues;
 #[cfg(test)]
 mod hostile;
 #[cfg(test)]

@@ -5,12 +5,13 @@
 //! and what becomes of it. It comes `up`, goes `down` or says a message, by its name or its digits, once or so many
 //! times: this `goes`, or its connection `closes`, or all has ended (`ends`). It `asks` for flows, so many times, which
 //! the switch answers. It `gets` the oldest message, which is this one, or `passes` so many messages, or `finds` no
-//! message and why. A `#` at the end stands for the number of the time, from 0, in eight digits. A row of another form
+//! message and why. The switch `is` told or untold, by its datapath id, and a slice is up or down, missing, or unknown
+//! before the switch has told what it is. A `#` at the end stands for the number of the time, from 0, in eight digits. A row of another form
 //! is a mistake in a test. It is answered as want of memory, so that the test fails.
 
 mod messages;
 
-use crate::expectations::expect;
+use expectations::expect;
 use flowspace::Policy;
 use messages::{flows, said};
 use of10_ctl::Frame;
@@ -18,6 +19,9 @@ use proxy_core::{Desk, Dest, Event, Taken, Timed, Verdict};
 use samples::{policy, rule, tcp};
 use std::alloc::{AllocError, Global};
 use std::process::Abort;
+
+/// The datapath id that the switch tells.
+const DATAPATH: u64 = 0xa1;
 
 /// The rows for which `opened` stands.
 const OPENED: &str = "\
@@ -106,6 +110,23 @@ fn finds(alloc: Global, desk: &mut Desk, whose: Dest, what: &str) -> Result<bool
     })
 }
 
+/// What the desk knows of the switch, or keeps of a slice.
+fn known(desk: &Desk, whose: Dest) -> &'static str {
+    match (whose, desk.states()) {
+        (Dest::Switch, _) => match desk.datapath() {
+            Some(DATAPATH) => "told",
+            Some(_) => "another",
+            None => "untold",
+        },
+        (Dest::Slice(_), None) => "unknown",
+        (Dest::Slice(slot), Some(states)) => match states.get(usize::from(slot)) {
+            Some(state) if state.up => "up",
+            Some(_) => "down",
+            None => "missing",
+        },
+    }
+}
+
 /// What a verb says is so, once.
 fn is_so(
     alloc: Global,
@@ -118,6 +139,7 @@ fn is_so(
         "gets" | "finds" => finds(alloc, desk, whose, what),
         "passes" => Ok(taken(desk, whose).is_ok()),
         "asks" => asks(alloc, desk, whose),
+        "is" => Ok(known(desk, whose) == what),
         _ => Ok(step(alloc, desk, event(alloc, whose, what)?)? == verb),
     }
 }
@@ -146,7 +168,7 @@ fn play(rt: &impl Abort, alloc: Global, desk: &mut Desk, rows: &str) -> Result<(
         let whose = connection(who)?;
         for time in 0..count {
             let what = numbered(alloc, what, time)?;
-            expect(rt, is_so(alloc, desk, whose, verb, what.as_str())?, row);
+            expect!(*rt; is_so(alloc, desk, whose, verb, what.as_str())?, row);
         }
     }
     Ok(())

@@ -1,4 +1,4 @@
 mod arguments;
-mod made;
+mod made_recordings;
 mod outside;
 mod reports;

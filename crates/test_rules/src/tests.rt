@@ -1,6 +1,6 @@
 mod actions;
 mod flow_mods;
+mod flow_tables;
 mod index;
 mod stats;
-mod table;
 mod tables;

@@ -4,7 +4,7 @@
 #[cfg(test)]
 mod gate;
 #[cfg(test)]
-mod many;
+mod many_sessions;
 #[cfg(test)]
 mod sessions;
 #[cfg(test)]

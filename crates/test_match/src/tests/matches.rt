@@ -2,7 +2,7 @@
 
 ghost use Rattle.std.specs.Prelude.{◌≡◌};
 
-use crate::expectations::{expect, expect_eq};
+use expectations::{expect, expect_eq};
 use of10_match::{Header12, Match};
 use of10_model::wire::{set_u16, set_u32};
 use of10_model::{Pattern, Prefix};

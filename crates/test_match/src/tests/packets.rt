@@ -1,6 +1,6 @@
 //! The headers of packets, spelled out as bytes, and the marks of probes.
 
-use crate::expectations::expect_eq;
+use expectations::expect_eq;
 use frame_header::{header_of, probe_slot, probe_trailer};
 use of10_match::Header12;
 use std::test::*;

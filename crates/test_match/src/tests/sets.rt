@@ -7,9 +7,9 @@ mod spelling;
 
 ghost use Rattle.of10_action.specs.Actions.{HasAddress};
 
-use crate::expectations::{expect, expect_eq};
 use covers::{expected, with_vlan};
 use drawn::{Draws, FIRST_HEADER};
+use expectations::{expect, expect_eq};
 use match_meet::{disjoint, includes, includes_aside, meet, rewrite, rewrite_header};
 use membership::{header_aside, is_in, shared_header};
 use of10_action::Action;

@@ -1,7 +1,7 @@
 //! Lists of actions and their bytes.
 
-use crate::expectations::expect_eq;
 use crate::readings::{Form, Row, expect_read};
+use expectations::expect_eq;
 use of10_action::{Action, Actions, Bytes, WireFault, code};
 use std::test::Fail;
 

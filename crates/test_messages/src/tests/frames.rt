@@ -1,7 +1,7 @@
 //! Frames, how they are made, and streams that are cut into them.
 
-use crate::expectations::expect_eq;
 use crate::readings::{Form, Row, expect_read, frames_in_pieces};
+use expectations::expect_eq;
 use of10_ctl::{Head, begin, message};
 use std::test::Fail;
 

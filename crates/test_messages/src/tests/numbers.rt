@@ -1,6 +1,6 @@
 //! Numbers as they stand in messages.
 
-use crate::expectations::expect_eq;
+use expectations::expect_eq;
 use of10_model::wire::{put_u8, put_u16, put_u32, put_u48, put_u64};
 use std::test::Fail;
 

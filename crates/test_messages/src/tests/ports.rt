@@ -1,7 +1,7 @@
 //! Ports, and the two messages that tell of them.
 
-use crate::expectations::expect_eq;
 use crate::readings::{Form, Row, expect_read};
+use expectations::expect_eq;
 use of10_port::Port;
 use of10_port::protocol::NO_FLOOD;
 use std::test::Fail;

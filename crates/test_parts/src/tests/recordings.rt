@@ -9,6 +9,9 @@ use wire_samples::bytes;
 /// The bytes that begin a recording.
 const BEGIN: &str = "4656524543000001";
 
+/// The bytes that begin a trace.
+const TRACE: &str = "4656545243000001";
+
 /// Switch 0 comes at moment 5.
 const UP: &str = "00000000000000000000000000000005";
 
@@ -27,17 +30,26 @@ const SLICE_GONE: &str = "05000100000000000000000000000000";
 /// Three bytes of the slice in slot 1 for switch 0.
 const SLICE_TALKS: &str = "04000100000000030000000000000000616263";
 
+/// A HELLO of switch 0.
+const HELLO: &str = "010000000000000800000000000000000100000800000000";
+
+/// A HELLO that is sent to switch 0 for the slice in slot 1.
+const SENT: &str = "060001000000000800000000000000070100000800000000";
+
 /// The digits that a word stands for: those of what it names, else the word itself.
 fn digits_of(word: &str) -> &str {
     match word {
         "nothing" => "",
         "begin" => BEGIN,
+        "trace" => TRACE,
         "up" => UP,
         "other-up" => OTHER_UP,
         "down" => DOWN,
         "slice" => SLICE,
         "slice-gone" => SLICE_GONE,
         "slice-talks" => SLICE_TALKS,
+        "hello" => HELLO,
+        "sent" => SENT,
         digits => digits,
     }
 }
@@ -66,6 +78,25 @@ impl Part<Words> for Reader {
         match items(self.alloc, &file, *slices) {
             Ok(found) => told(self.alloc, &found),
             Err(fault) => told(self.alloc, &fault),
+        }
+    }
+}
+
+/// What reads traces.
+#[derive(Drop)]
+struct TraceReader {
+    alloc: Global,
+}
+
+impl Part<Words> for TraceReader {
+    fn answer(&mut self, (slices, words): &Words) -> Result<String, AllocError> {
+        let file = file_of(self.alloc, words)?;
+        match trace_items(self.alloc, &file, *slices) {
+            Ok(found) => told(self.alloc, &found),
+            Err(fault) => told(
+                self.alloc,
+                &accept_trace(&file, *slices).err().unwrap_or(fault),
+            ),
         }
     }
 }
@@ -198,6 +229,59 @@ const LAST: &[(Words, &str)] = &[(
 #[test]
 fn the_last_switch_and_the_last_slot_are_read(rt: HostRuntime) -> Result<(), Fail> {
     play_files(rt.alloc(), LAST)
+}
+
+const TRACES: &[(Words, &str)] = &[
+    ((2, "trace"), "[]"),
+    ((2, "begin"), "Bad(0)"),
+    (
+        (2, "trace up hello sent down"),
+        "[\
+        Item { kind: 0, switch: 0, slot: 0, moment: 5, from: 24, size: 0 }, \
+        Item { kind: 1, switch: 0, slot: 0, moment: 0, from: 40, size: 8 }, \
+        Item { kind: 6, switch: 0, slot: 1, moment: 7, from: 64, size: 8 }, \
+        Item { kind: 2, switch: 0, slot: 0, moment: 9, from: 88, size: 0 }]",
+    ),
+    // The kinds of a recording that a trace hasn't, and its own that isn't there
+    ((2, "trace up slice"), "Bad(24)"),
+    ((2, "trace up slice-talks"), "Bad(24)"),
+    ((2, "trace up 07000000000000000000000000000000"), "Bad(24)"),
+    // The slot of what was sent for a slice
+    ((1, "trace up sent"), "Bad(24)"),
+    // Bytes that are cut off come before bytes that are no frame, and these before who is up
+    (
+        (2, "trace up 0600010000000009000000000000000701000008000000"),
+        "Torn(24)",
+    ),
+    (
+        (
+            2,
+            "trace 06000100000000080000000000000007010000090000000000",
+        ),
+        "Bad(8)",
+    ),
+    ((2, "trace sent"), "NotOpen(8)"),
+    ((2, "trace hello"), "NotOpen(8)"),
+    ((2, "trace up up"), "NotOpen(24)"),
+    ((2, "trace up down sent"), "NotOpen(40)"),
+    // Less than a header, more than a frame, none
+    (
+        (2, "trace up 0100000000000007000000000000000001000007000000"),
+        "Bad(24)",
+    ),
+    (
+        (
+            2,
+            "trace up 010000000000000900000000000000000100000800000000ff",
+        ),
+        "Bad(24)",
+    ),
+    ((2, "trace up 01000000000000000000000000000000"), "Bad(24)"),
+];
+
+#[test]
+fn traces_have_whole_frames(rt: HostRuntime) -> Result<(), Fail> {
+    play(&mut TraceReader { alloc: rt.alloc() }, TRACES)
 }
 
 /// Records, each by its kind, its switch, its slot, its moment and its bytes.

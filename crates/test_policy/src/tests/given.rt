@@ -2,14 +2,18 @@
 
 ghost use Rattle.std.specs.Prelude.{All, IfOk};
 ghost use Rattle.flowspace.specs.Slices.{IsPlainSlice};
+ghost use Rattle.flowspace.specs.Swaps.{IsPlainSwap};
 
-use flowspace::{Policy, PolicyFault, Rule, Slice, Text};
+use flowspace::{Policy, PolicyFault, Rule, Slice, Swap, Text};
 use samples::{ANY, Packets, match_of, plain_rules};
 use std::alloc::{AllocError, Global};
 use std::process::Abort;
 
 /// A rule as the tables have it: the switch that it is for, or all; its priority, packets, writer and readers.
 pub(super) type Row = (Option<u64>, u32, Packets, Option<u8>, u32);
+
+/// A swap as the tables have it: its slice, the switch that it is for, or all, and the numbers shown and physical.
+pub(super) type SwapRow = (u8, Option<u64>, u16, u16);
 
 /// The TCP packets to ports 80, 22, 23 and 443.
 pub(super) const WEB: Packets = Packets {
@@ -81,6 +85,55 @@ fn named(alloc: Global, names: &[&str]) -> Result<Vec<Slice>, AllocError>
         slices.push(plain_slice(alloc, name)?)?;
     }
     Ok(slices)
+}
+
+// A swap that no policy may have is a mistake likewise.
+fn plain_swap(row: &SwapRow) -> Result<Swap, AllocError>
+    ensures { IfOk result IsPlainSwap }
+{
+    let (slice, switch, shown, physical) = row;
+    let swap = Swap {
+        slice: *slice,
+        switch: *switch,
+        shown: *shown,
+        physical: *physical,
+    };
+    if swap.is_plain() {
+        Ok(swap)
+    } else {
+        Err(AllocError)
+    }
+}
+
+/// The swaps of the rows.
+fn swaps_of(alloc: Global, rows: &[SwapRow]) -> Result<Vec<Swap>, AllocError>
+    ensures { IfOk result (λ v. All IsPlainSwap v.items) }
+{
+    let mut plain = Vec::new(alloc);
+    for row in rows {
+        plain.push(plain_swap(row)?)?;
+    }
+    Ok(plain)
+}
+
+/// What loading slices of these names, these rules and these swaps answers.
+pub(super) fn load_ports(
+    alloc: Global,
+    names: &[&str],
+    rules: &[Rule],
+    swaps: &[SwapRow],
+) -> Result<Policy, PolicyFault> {
+    let (Ok(slices), Ok(rules), Ok(swaps)) = (
+        named(alloc, names),
+        plain_rules(alloc, rules),
+        swaps_of(alloc, swaps),
+    ) else {
+        return Err(PolicyFault::Memory);
+    };
+    if slices.is_empty() {
+        return Err(PolicyFault::Memory);
+    }
+    Policy::load_ports(alloc, slices, rules, swaps)
 }
 
 /// What loading slices of these names and these rules answers.

@@ -123,6 +123,36 @@ rules Some(0) Some(1)";
 }
 
 #[test]
+fn a_policy_tells_slots_by_names_and_its_rules_in_order(rt: HostRuntime) -> Result<(), Fail> {
+    let alloc = rt.alloc();
+    let rules = made(
+        alloc,
+        &[
+            (None, 50, WEB, Some(0), 0),
+            (Some(7), 100, SHELL, Some(1), 0),
+            (None, 50, TELNET, Some(0), 0),
+        ],
+    )?;
+    let policy = load(alloc, NAMES, &rules)?;
+    let ordered = policy.in_rule_order(alloc)?;
+    let came = told(alloc, &rules, &[], &ordered)?;
+    expect_text(&rt, 0, came.as_str(), "rules Some(1) Some(0) Some(2)");
+    let on = policy.of_switch(alloc, 8)?;
+    let mut came = String::new(alloc);
+    for name in ["bob", "alice", "ali", "", "carol"] {
+        write!(
+            came,
+            "{:?} {:?} ",
+            policy.slot_named(name),
+            on.slot_named(name)
+        )?;
+    }
+    let wanted = "Some(1) Some(1) Some(0) Some(0) None None None None None None ";
+    expect_text(&rt, 1, came.as_str(), wanted);
+    Ok(())
+}
+
+#[test]
 fn a_switch_has_its_rules_in_order(rt: HostRuntime) -> Result<(), Fail> {
     expect_answers(
         &rt,

@@ -6,7 +6,7 @@ ghost use Rattle.std.specs.Prelude.{IfOk};
 ghost use Rattle.slice_side.specs.Reactions.{IsSoundChange};
 
 use super::{TWO_RULES, policy_of, push_message, state};
-use crate::expectations::{expect, expect_text};
+use expectations::{expect, expect_eq};
 use flow_book::SliceState;
 use flowspace::SwitchPolicy;
 use of10_ctl::Frame;
@@ -96,7 +96,7 @@ fn expect_rows(rt: &impl Abort, alloc: Global, rows: &str) -> Result<(), AllocEr
     for row in rows.lines() {
         let (message, wanted) = row.split_once(" => ").ok_or(AllocError)?;
         let reaction = bench.hear(alloc, &frame(alloc, &[message])?, 0)?;
-        expect_text(rt, told(alloc, &reaction)?.as_str(), wanted, message);
+        expect_eq!(*rt; told(alloc, &reaction)?.as_str(), wanted, message);
     }
     Ok(())
 }
@@ -173,8 +173,8 @@ fn what_was_set_lasts_as_long_as_the_connection(rt: HostRuntime) -> Result<(), F
     let is_set = bench.is_settled(alloc, "0109000c0000000100000010", 7, (16, 7));
     let is_kept = bench.is_settled(alloc, "0103000800000001", 5, (16, 7));
     let is_left = bench.is_left(128, 7);
-    expect(&rt, is_set, "a setting");
-    expect(&rt, is_kept, "an echo after it");
-    expect(&rt, is_left, "the end of the connection");
+    expect!(rt; is_set, "a setting");
+    expect!(rt; is_kept, "an echo after it");
+    expect!(rt; is_left, "the end of the connection");
     Ok(())
 }

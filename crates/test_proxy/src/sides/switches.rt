@@ -1,7 +1,7 @@
 //! What follows from the messages of a switch, for each slice.
 
 use super::{RuleRow, TWO_RULES, policy_of, push_message, state};
-use crate::expectations::expect_text;
+use expectations::expect_eq;
 use flow_book::SliceState;
 use flowspace::SwitchPolicy;
 use of10_ctl::Frame;
@@ -90,7 +90,7 @@ fn expect_rows(
         let message = frame(alloc, &[written_out(alloc, sent)?.as_str()])?;
         let answer = told(alloc, &answer(alloc, &policy, &states, &message)?)?;
         let wanted = written_out(alloc, wanted)?;
-        expect_text(rt, answer.as_str(), wanted.as_str(), sent);
+        expect_eq!(*rt; answer.as_str(), wanted.as_str(), sent);
     }
     Ok(())
 }

@@ -1,7 +1,7 @@
 //! Messages of each length, whatever they say of the length of a part.
 
 use super::{Bench, set_up};
-use crate::expectations::expect;
+use expectations::expect;
 use of10_ctl::kind::{FLOW_MOD, PACKET_OUT};
 use of10_ctl::{Frame, message};
 use samples::{TO_TCP_80, bytes};
@@ -147,8 +147,8 @@ fn expect_case(rt: &impl Abort, alloc: Global, is_so: bool, size: u16, listed: u
         return;
     }
     match case_name(alloc, size, listed) {
-        Ok(name) => expect(rt, is_so, &name),
-        Err(_) => expect(rt, is_so, "a case"),
+        Ok(name) => expect!(*rt; is_so, name),
+        Err(_) => expect!(*rt; is_so, "a case"),
     }
 }
 

@@ -1,4 +1,4 @@
-use crate::expectations::{expect, expect_eq};
+use expectations::{expect, expect_eq};
 use fv_base::{Failed, MemorySink, Sink};
 use fv_live::{
     Clock, Flag, HeldSink, MemoryClock, MemorySource, NeverSource, SharedBytes, SharedSink, Source,

@@ -1,9 +1,9 @@
 ghost use Rattle.std.specs.Prelude.{◌≡◌, None, IfOk};
 
+use crate::compared_connections::{Heard, Line, Port, TURNS, link};
 use crate::devices::{
     ALICE, BOB, Device, GREETING, IN, Long, NOTHING, OUT, SWITCH, Stream, TO_22, UNANSWERED,
 };
-use crate::ports::{Heard, Line, Port, TURNS, link};
 use crate::threads::begin;
 use fv_base::{MemoryFiles, MemorySink, Words};
 use fv_live::{Host, Links, MemoryWires, Spawner};

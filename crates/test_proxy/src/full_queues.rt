@@ -6,16 +6,24 @@ use std::test::Fail;
 /// What is filled, at which message, and what comes after. Bob is up, too, where it is `opened`.
 const TABLE: &str = "\
 # A switch is asked what it is when it connects, and prepared when it has told that, once. Packets go to their writer.
+switch is untold
 switch goes up
 switch gets ask_nothing
 switch gets ask_features
+switch is untold
+alice is unknown
 switch goes features
+switch is told
+alice is down
+nobody is missing
 switch gets ask_for_whole_packets
 switch gets clear_table
 switch gets ask_barrier
 switch goes features
 switch finds nothing
 alice goes up
+alice is up
+bob is down
 bob goes up
 switch goes web_packet
 alice gets greeting
