@@ -32,9 +32,14 @@ _flowvisor() {
 # The options of a subcommand of flowvisor-tool.
 _flowvisor_tool_options() {
     case $1 in
+        lint) echo '--help -h --strict --resolve' ;;
         explain) echo '--help -h --switch' ;;
+        try) echo '--help -h --slice --switch --ports --command --packet-out' ;;
+        show) echo '--help -h --switch-port --policy --slice' ;;
         to-pcap) echo '--help -h --recording' ;;
         from-pcap) echo '--help -h --switch-port --policy --slice --attach --direct --drop' ;;
+        compare) echo '--help -h --switch-port --policy --slice --attach' ;;
+        watch) echo '--help -h --switch-port --slice --how --log --http --public --to-end' ;;
         *) echo '--help -h' ;;
     esac
 }
@@ -44,17 +49,19 @@ _flowvisor_tool() {
     COMPREPLY=()
     _flowvisor_redirected && return
     if ((COMP_CWORD == 1)); then
-        mapfile -t COMPREPLY < <(compgen -W 'lint explain show to-pcap from-pcap --help -h' -- "$word")
+        mapfile -t COMPREPLY < <(compgen -W 'lint explain try show to-pcap from-pcap compare watch --help -h --version' -- "$word")
         return
     fi
     case $before:$command:$word in
         --policy:*) _flowvisor_files "$word" .toml ;;
         --recording:*) _flowvisor_files "$word" .rec ;;
-        --switch:* | --switch-port:* | --slice:* | --attach:* | --direct:* | --drop:*) ;;
+        --command:*) mapfile -t COMPREPLY < <(compgen -W 'add modify modify_strict delete delete_strict' -- "$word") ;;
+        --switch:* | --switch-port:* | --slice:* | --attach:* | --direct:* | --drop:* | --ports:* | --http:*) ;;
         *:-*) mapfile -t COMPREPLY < <(compgen -W "$(_flowvisor_tool_options "$command")" -- "$word") ;;
-        lint:lint:* | *:explain:*) _flowvisor_files "$word" .toml ;;
+        lint:lint:* | --strict:lint:* | --resolve:lint:* | *:explain:* | *:try:*) _flowvisor_files "$word" .toml ;;
         *:lint:*) ;;
-        from-pcap:from-pcap:*) _flowvisor_files "$word" .pcap ;;
+        *.toml:watch:* | from-pcap:from-pcap:* | compare:compare:*) _flowvisor_files "$word" .pcap ;;
+        *:watch:*) _flowvisor_files "$word" .toml ;;
         *) _flowvisor_files "$word" '' ;;
     esac
 }

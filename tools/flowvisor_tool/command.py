@@ -5,11 +5,11 @@ import os
 import signal
 import sys
 
-from flowvisor_tool import explain, from_pcap, lint, show, to_pcap
+from flowvisor_tool import VERSION, compare, explain, from_pcap, lint, show, to_pcap, try_message, watch
 from .faults import Fault
 
 # Each has NAME, SUMMARY, add_arguments(parser) and run(arguments), which gives the status.
-SUBCOMMANDS = (lint, explain, show, to_pcap, from_pcap)
+SUBCOMMANDS = (lint, explain, try_message, show, to_pcap, from_pcap, compare, watch)
 BROKEN_PIPE_STATUS = 128 + signal.SIGPIPE
 MISSPELLED_STATUS = 2
 INTERRUPTED_STATUS = 128 + signal.SIGINT
@@ -38,6 +38,7 @@ def parser():
         description="Reads what flowvisor takes and gives: policies, recordings, reports and captures.",
         allow_abbrev=False,
     )
+    command.add_argument("--version", action="version", version=f"%(prog)s {VERSION}")
     subparsers = command.add_subparsers(required=True, metavar="COMMAND")
     for subcommand in SUBCOMMANDS:
         words = subparsers.add_parser(

@@ -1,6 +1,7 @@
 """Where controllers listen: texts that no address can be, and addresses that two slices have."""
 import ipaddress
 import re
+import socket
 
 from .policy import Finding
 
@@ -13,7 +14,7 @@ def address_of(text):
     """The host and the port of a controller; ValueError says why it can have none."""
     host, colon, port = text.rpartition(":")
     if not colon:
-        raise ValueError("has no port: it is written as host:port")
+        raise ValueError("has no port, so that it can never be dialled: it is written as host:port")
     if not PORT.fullmatch(port) or not 1 <= int(port) <= 65535:
         raise ValueError(f"has the port {port or 'of no digits'}, but a port is a number from 1 to 65535")
     return host_of(host), int(port)
@@ -54,3 +55,29 @@ def controller_warnings(slices):
         if earlier is not one:
             told = f"slice {one.slot}: the controller is that of slice {earlier.slot} (line {earlier.position.line}) too"
             yield Finding(one.controller_position, told)
+
+
+def unresolved_names(slices):
+    """Hosts of controllers that the system finds no address of, now and here."""
+    reasons = {}
+    for one in slices:
+        try:
+            host, port = address_of(one.controller or "")
+        except ValueError:
+            continue
+        if host not in reasons:
+            reasons[host] = reason_unresolved(host, port)
+        if reasons[host] is not None:
+            told = f'slice {one.slot}: the controller "{one.controller}" has the host {host}, which isn\'t resolved here: {reasons[host]}'
+            yield Finding(one.controller_position, told)
+
+
+def reason_unresolved(host, port):
+    """Why the system finds no address of a host, or None where it does."""
+    try:
+        socket.getaddrinfo(host, port, type=socket.SOCK_STREAM)
+    except socket.gaierror as error:
+        return error.strerror
+    except UnicodeError:
+        return "it is no name of a host"
+    return None

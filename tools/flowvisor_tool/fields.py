@@ -1,4 +1,4 @@
-"""The twelve fields of a packet's header, read from text as `ovs-ofctl` writes it.
+"""The twelve fields of a packet's header, read from words as `ovs-ofctl` writes them.
 
 The names, the sizes and the order are those of a match (OpenFlow 1.0.0, sections 3.1 and 5.2.3).
 """
@@ -36,6 +36,8 @@ OTHER_NAMES = {other: name for names in NAMES_BEHIND.values() for name, other in
 
 HARDWARE = re.compile(r"[0-9A-Fa-f]{2}(?::[0-9A-Fa-f]{2}){5}")
 NUMBER = re.compile(r"0[xX][0-9A-Fa-f]+|[0-9]+")
+# The tag of packets without one, as newer versions of `ovs-ofctl` write it with its mask.
+NO_TAG = "0x0000/0x1fff"
 
 
 class Header(NamedTuple):
@@ -53,6 +55,9 @@ class Header(NamedTuple):
     nw_dst: int = 0
     tp_src: int = 0
     tp_dst: int = 0
+
+
+EMPTY = Header._field_defaults
 
 
 class Need(NamedTuple):
@@ -79,8 +84,13 @@ NEEDS = {
 
 def packet_text(header):
     """A packet as `ovs-ofctl` writes it; fields that are as in an empty one are left out."""
-    shown = {name: value for name, value in header._asdict().items() if value != Header._field_defaults[name]}
-    return fields_text(shown) or "in_port=0"
+    return set_text({name: one for name, one in whole(header._asdict()).items() if one[0] != EMPTY[name]}) or "in_port=0"
+
+
+def set_text(constraints):
+    """What some fields with their masks have, as `ovs-ofctl` writes it."""
+    values = {name: value for name, (value, _mask) in constraints.items()}
+    return fields_text(values, lambda name, value: constraint_text(name, value, constraints[name][1]))
 
 
 def number_of(text, greatest):
@@ -120,15 +130,37 @@ def is_value(name, value):
     return True
 
 
+def network_of(text):
+    """The address and the mask of a network, as 10.0.0.0/8 or 10.0.0.0/255.0.0.0, or None; bits behind the mask are 0."""
+    try:
+        network = ipaddress.IPv4Network(text, strict=False)
+    except ValueError:
+        return None
+    return int(network.network_address), int(network.netmask)
+
+
+def constraint_of(name, text):
+    """The value of a field that a text says, and its mask; or None."""
+    if name in NETWORK_FIELDS and "/" in text:
+        return network_of(text)
+    value = value_of(name, text)
+    return None if value is None else (value, (1 << BITS[name]) - 1)
+
+
+def whole(fields):
+    """Fields, given by name with their numbers, with masks of all their bits."""
+    return {name: (value, (1 << BITS[name]) - 1) for name, value in fields.items()}
+
+
 def fields_of(word):
-    """The fields that one word of a packet says."""
+    """The fields that one word says, each with its value and its mask."""
     if word in KEYWORDS:
-        return KEYWORDS[word]
+        return whole(KEYWORDS[word])
     name, equals, text = word.partition("=")
     name = OTHER_NAMES.get(name, name)
     if not equals or name not in (*BITS, "vlan_tci"):
         raise Fault(f"{word} is no field of a packet: {', '.join(BITS)}, {', '.join(KEYWORDS)}")
-    fields = tag_of(text) if name == "vlan_tci" else {name: value_of(name, text)}
+    fields = tag_of(text) if name == "vlan_tci" else {name: constraint_of(name, text)}
     if fields is None or None in fields.values():
         raise Fault(f"{word}: {text or 'nothing'} is no value of {name}")
     return fields
@@ -136,25 +168,34 @@ def fields_of(word):
 
 def tag_of(text):
     """The fields that a VLAN tag says, with the bit that newer versions of `ovs-ofctl` set where there is one, or None."""
-    tag = number_of(text, 0xFFFF)
+    tag = 0 if text == NO_TAG else number_of(text, 0xFFFF)
     if tag == 0:
-        return {"dl_vlan": UNTAGGED}
+        return whole({"dl_vlan": UNTAGGED})
     if tag is None or not tag & TAG_IS_THERE:
         return None
-    return {"dl_vlan": tag & LARGEST_VLAN, "dl_vlan_pcp": tag >> 13}
+    return whole({"dl_vlan": tag & LARGEST_VLAN, "dl_vlan_pcp": tag >> 13})
 
 
-def header_of_words(text):
-    """The header of a packet that is given by fields, as `in_port=1,tcp,nw_dst=10.0.0.1,tp_dst=80`."""
+def words_of(text):
+    """The words of a text, between which commas and blanks stand."""
+    return [word for word in re.split(r"[,\s]+", text) if word]
+
+
+def constraints_of(words):
+    """The fields that words say, as `in_port=1`, `tcp`, `nw_dst=10.0.0.0/8`: each with its value and its mask."""
     given = {}
-    for word in filter(None, re.split(r"[, ]+", text)):
-        fields = fields_of(word)
-        for name, value in fields.items():
-            if given.setdefault(name, value) != value:
-                raise Fault(f"{word}: {name} is {value_text(name, given[name])} already")
-    header = Header(**given)
+    for word in words:
+        for name, constraint in fields_of(word).items():
+            if given.setdefault(name, constraint) != constraint:
+                raise Fault(f"{word}: {name} is {constraint_text(name, *given[name])} already")
     for name in given:
         for need in NEEDS.get(name, ()):
-            if getattr(header, need.name) not in need.values:
+            if given.get(need.name, (None,))[0] not in need.values:
                 raise Fault(f"{name} needs {need.name} {need.text} beside it")
-    return header
+    return given
+
+
+def constraint_text(name, value, mask):
+    """The value of a field, with the length of its mask where that is one of a network."""
+    is_network = name in NETWORK_FIELDS and mask != (1 << BITS[name]) - 1
+    return f"{value_text(name, value)}/{mask.bit_count()}" if is_network else value_text(name, value)

@@ -11,12 +11,16 @@ from .recordings import MAGIC
 CAPTURE_MAGICS = {*PCAP_MAGICS, SECTION_HEADER}
 
 
+def is_capture(file):
+    """Whether a file, of which nothing was read, begins as a capture does."""
+    return file.peek(4)[:4] in CAPTURE_MAGICS
+
+
 def is_recording(file, name):
     """Whether a file, of which nothing was read, begins as a recording does. A fault tells of one that is a capture."""
-    start = file.peek(len(MAGIC))[: len(MAGIC)]
-    if start[:4] in CAPTURE_MAGICS:
+    if is_capture(file):
         raise Fault("is a capture, not a recording: see from-pcap", name)
-    return start == MAGIC
+    return file.peek(len(MAGIC))[: len(MAGIC)] == MAGIC
 
 
 @contextlib.contextmanager

@@ -2,8 +2,9 @@
 import dataclasses
 import enum
 
-from .captures import Problem
+from .captures import Moments, Problem, packets_of
 from .connections import SWITCH, Connection, State
+from .files import named
 from .segments import ACK, FIN, RST, SYN, datagram_of, segment_of
 from .streams import EARLIER_BYTES
 
@@ -80,8 +81,17 @@ class Follower:
             if known is None or not known.begins_with(segment):
                 known = self.connections[key] = self.begin(segment, known)
         elif known is None and segment.size:
-            raise Problem(segment.number, "its connection was open before the capture began")
+            raise Problem(segment.number, self.open_before(segment))
         return known
+
+    def open_before(self, segment):
+        """Why a connection that was open before the capture can't be replayed, and what to do."""
+        _address, port = segment.destination if self.ends.role(segment.destination) is None else segment.source
+        return (
+            "its connection was open before the capture began, and since nobody knows what was said on it until then, no replay "
+            "can answer as the proxy did: capture from before it begins (its switch may connect anew), or leave it out of this "
+            f"capture by its port (tcpdump -r CAPTURE -w PART 'not tcp port {port}')"
+        )
 
     def begin(self, segment, before):
         """The connection that a SYN begins, in the place of one before between the same ports."""
@@ -214,3 +224,15 @@ class Follower:
         problems = [problem for connection in self.connections.values() if (problem := connection.lack())]
         if problems:
             raise min(problems, key=lambda problem: problem.number)
+
+
+def follow(path, followers):
+    """Has each of some followers hear all packets of a capture."""
+    moments = Moments()
+    with open(path, "rb") as file, named(path):
+        for packet in packets_of(file):
+            moment = moments.of(packet)
+            for follower in followers:
+                follower.hear(packet, moment)
+    for follower in followers:
+        follower.finish()

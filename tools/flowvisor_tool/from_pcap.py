@@ -2,12 +2,13 @@
 import argparse
 import math
 
-from .captures import Moments, Problem, packets_of
+from .called_ends import play
+from .captures import Problem
 from .direct import DirectRecorder
 from .ends import Ends, end_of, number_of, port_of, slices_of, slot_of, slots_of, unrecorded
 from .faults import Fault
-from .files import named, replaced, say
-from .following import Follower
+from .files import replaced, say
+from .following import Follower, follow
 from .openflow.protocol import MessageType
 from .recorder import Records, Sieve
 from .recordings import LARGEST_RECORDING, SWITCHES
@@ -27,6 +28,16 @@ docs/REFERENCE.md of flowvisor says all of this at length.
 def add_arguments(parser):
     parser.usage = USAGE
     parser.epilog = EPILOG
+    add_ends(parser)
+    add = parser.add_argument
+    add("--direct", metavar="SLICE", help="without a proxy: the controller is this slice's")
+    add("--drop", default=frozenset(), type=message_types, metavar="TYPES", help="leave out messages, as ECHO_REQUEST,3")
+    add("capture", metavar="CAPTURE", help="the capture to be read")
+    add("recording", metavar="RECORDING", help="the recording to be written")
+
+
+def add_ends(parser):
+    """Adds what says which of a capture's connections are the proxy's, and whose."""
     add = parser.add_argument
     add("--switch-port", required=True, type=switch_end, metavar="PORT", help="where switches connect to, or ADDRESS:PORT")
     add("--policy", metavar="POLICY", help="has the slices' names, and their controllers")
@@ -34,10 +45,6 @@ def add_arguments(parser):
         help="a slice's controller, by name or slot (from 0)")
     add("--attach", action="append", default=[], type=attachment, metavar="PACKET=SWITCH",
         help="this packet begins a connection for the switch")
-    add("--direct", metavar="SLICE", help="without a proxy: the controller is this slice's")
-    add("--drop", default=frozenset(), type=message_types, metavar="TYPES", help="leave out messages, as ECHO_REQUEST,3")
-    add("capture", metavar="CAPTURE", help="the capture to be read")
-    add("recording", metavar="RECORDING", help="the recording to be written")
 
 
 def switch_end(text):
@@ -123,15 +130,6 @@ def convert_direct(arguments, slices, records, sieve):
 
 def record(path, all_ends, recorder):
     """Follows the connections of a capture that have these ends, and has what happens at them recorded."""
-    happenings, moments = [], Moments()
-    followers = [Follower(ends, happenings) for ends in all_ends]
-    with open(path, "rb") as file, named(path):
-        for packet in packets_of(file):
-            moment = moments.of(packet)
-            for follower in followers:
-                follower.hear(packet, moment)
-    for follower in followers:
-        follower.finish()
-    for happening in happenings:
-        recorder.play(happening)
-    recorder.finish()
+    happenings = []
+    follow(path, [Follower(ends, happenings) for ends in all_ends])
+    play(happenings, recorder, path, all_ends[0])

@@ -1,6 +1,7 @@
 """Tells all that is wrong with a policy, each with its line and column, and what looks like a mistake."""
-from .controllers import controller_warnings
-from .policy import Finding, hidden_pairs
+from .controllers import controller_warnings, unresolved_names
+from .fields import packet_text
+from .policy import Finding, hidden_pairs, packet_in_both, partly_read_pairs
 from .policy_forms import read_network
 from .policy_text import read_policy_file
 
@@ -8,25 +9,30 @@ NAME = "lint"
 SUMMARY = "tell all that is wrong with a policy"
 EPILOG = """\
 A fault is what flowvisor check refuses the policy for; it tells the first one alone. A warning is what it accepts, but
-hardly was meant: a rule that never applies, bits of an address that don't count, a controller that no connection can be
-made to, two slices with one controller. The status is 1 where there is a fault.
+hardly was meant: a rule that never applies, bits of an address that don't count, a reader of some overlapping rules of
+a slice alone, a controller that can never be dialled, two slices with one controller. The status is 1 where there is a
+fault, and with --strict where there is a warning too.
 """
 
 
 def add_arguments(parser):
     parser.epilog = EPILOG
+    parser.add_argument("--strict", action="store_true", help="end with status 1 where there are warnings")
+    parser.add_argument("--resolve", action="store_true", help="look up the hosts of controllers, and warn of those not found")
     parser.add_argument("policy", metavar="POLICY", help="the policy's file")
 
 
 def run(arguments):
     reading = read_policy_file(arguments.policy)
     warnings = warnings_of(reading)
+    if arguments.resolve:
+        warnings += unresolved_names(reading.policy.slices)
     told = [(finding, "fault") for finding in reading.faults] + [(finding, "warning") for finding in warnings]
     for finding, kind in sorted(told):
         place = finding.position
         print(f"{arguments.policy}:{place.line}:{place.column}: {kind}: {on_one_line(finding.text)}")
     print(verdict(reading, len(warnings)))
-    return 1 if reading.faults else 0
+    return 1 if reading.faults or arguments.strict and warnings else 0
 
 
 def on_one_line(text):
@@ -49,14 +55,32 @@ def counted(count, noun):
 
 def warnings_of(reading):
     """What a policy may have and be accepted, but hardly on purpose."""
-    return [*hidden_rules(reading), *disregarded_bits(reading), *controller_warnings(reading.policy.slices)]
+    rules = reading.policy.in_order
+    hidden = list(hidden_pairs(rules))
+    never = {later.index for _earlier, later in hidden}
+    return [
+        *hidden_rules(hidden), *partial_readers([rule for rule in rules if rule.index not in never]), *disregarded_bits(reading),
+        *controller_warnings(reading.policy.slices),
+    ]
 
 
-def hidden_rules(reading):
+def hidden_rules(pairs):
     """Rules all of whose packets are another's; where these two overlap, that is a fault."""
-    for earlier, later in hidden_pairs(reading.policy.in_order):
+    for earlier, later in pairs:
         if later.writer is None or later.writer == earlier.writer:
             yield Finding(later.position, f"{later} never applies: {earlier} comes before it and has all of its packets")
+
+
+def partial_readers(rules):
+    """Readers of one rule of a slice and not of another that has packets in common with it, of rules that apply."""
+    for earlier, later, reader in partly_read_pairs(rules):
+        packet = packet_text(packet_in_both(earlier.pattern, later.pattern))
+        if reader in later.readers:
+            told = f"{reader} reads {later}, but not {earlier}, which comes before it and has some of its packets, as {packet}"
+            yield Finding(later.position, told)
+        else:
+            told = f"{reader} reads {earlier}, but not {later}, which comes behind it and has packets in common with it, as {packet}"
+            yield Finding(earlier.position, told)
 
 
 def disregarded_bits(reading):

@@ -1,5 +1,7 @@
 """Slices and rules, the order of rules, and which rules have packets in common."""
+import collections
 import functools
+import itertools
 from collections.abc import Iterator
 from dataclasses import dataclass
 
@@ -47,6 +49,20 @@ class Pattern:
         return [
             name for name, (value, mask) in self.constraints.items() if (value ^ getattr(header, name)) & mask
         ]
+
+    def conflicts(self, other):
+        """The fields that keep all packets of another pattern out, the switches aside."""
+        return [
+            name for name, (value, mask) in self.constraints.items()
+            if name in other.constraints and (value ^ other.constraints[name][0]) & mask & other.constraints[name][1]
+        ]
+
+    def covers(self, other):
+        """Whether all packets of the other are in this, the switches aside."""
+        return all(
+            name in other.constraints and not mask & ~other.constraints[name][1] and not (value ^ other.constraints[name][0]) & mask
+            for name, (value, mask) in self.constraints.items()
+        )
 
     def holds_on(self, switch):
         """Whether the rule counts on a switch; None is one that no rule names."""
@@ -135,6 +151,26 @@ def refused_pairs(rules) -> Iterator[tuple[Rule, Rule]]:
         for earlier in rules[:place]:
             if earlier.writer != later.writer and earlier.pattern.meets(later.pattern):
                 yield earlier, later
+
+
+def partly_read_pairs(rules) -> Iterator[tuple[Rule, Rule, str]]:
+    """Pairs of rules of one slice, given in their order, that have packets in common, and a reader of one of them alone.
+
+    Each reader of a rule is told of with one other rule.
+    """
+    written = collections.defaultdict(list)
+    for rule in rules:
+        if rule.writer is not None:
+            written[rule.writer].append(rule)
+    seen = set()
+    for earlier, later in itertools.chain.from_iterable(itertools.combinations(group, 2) for group in written.values()):
+        if earlier.readers == later.readers or not earlier.pattern.meets(later.pattern):
+            continue
+        for rule, other in ((later, earlier), (earlier, later)):
+            for reader in rule.readers:
+                if reader not in other.readers and (rule.index, reader) not in seen:
+                    seen.add((rule.index, reader))
+                    yield earlier, later, reader
 
 
 def hidden_pairs(rules) -> Iterator[tuple[Rule, Rule]]:

@@ -1,33 +1,63 @@
-"""Prints a report or a recording for people to read: a line for each message, with its fields by name."""
+"""Prints a report, a recording or a capture for people to read: a line for each message, with its fields by name."""
 import itertools
 
-from .files import is_recording, named, say
+from .captures import Problem
+from .ends import Ends, slices_of, slot_of, slots_of
+from .faults import Fault
+from .files import is_capture, is_recording, named, say
+from .from_pcap import slice_end, switch_end
 from .openflow.messages import message_text
 from .recordings import Kind, events_of, records_of
 from .reports import What, lines_of
+from .watching.shown import capture_texts
 
 NAME = "show"
-SUMMARY = "print the messages of a report or a recording with their fields by name"
+SUMMARY = "print the messages of a report, a recording or a capture"
 EPILOG = """\
 A line of a report begins as the report's own: the event, the switch, and to whom the message goes. A line of a
 recording has the event, the switch, the moment in milliseconds, and from whom the message comes: the switch, or
-the slot of a slice.
+the slot of a slice. A line of a capture has the packet, the moment, and from whom the message comes or to whom the
+proxy sends it. The options are for captures.
 """
 
 
 def add_arguments(parser):
     parser.epilog = EPILOG
-    parser.add_argument("file", metavar="REPORT|RECORDING", help="what `flowvisor replay` printed, or what it reads")
+    add = parser.add_argument
+    add("--switch-port", default=(None, 6653), type=switch_end, metavar="PORT", help="where switches connect to (6653)")
+    add("--policy", metavar="POLICY", help="has the slices' names, and their controllers")
+    add("--slice", action="append", default=[], type=slice_end, metavar="SLICE=ADDRESS:PORT", help="a slice's controller")
+    parser.add_argument("file", metavar="FILE", help="what `flowvisor replay` printed, or reads, or a capture")
 
 
 def run(arguments):
     with open(arguments.file, "rb") as file, named(arguments.file):
-        if is_recording(file, arguments.file):
-            texts = recording_texts(records_of(file, arguments.file))
+        if is_capture(file):
+            say(told_capture(file, arguments))
+        elif is_recording(file, arguments.file):
+            say(recording_texts(records_of(file, arguments.file)))
         else:
-            texts = map(report_text, lines_of(file, arguments.file))
-        say(texts)
+            say(map(report_text, lines_of(file, arguments.file)))
     return 0
+
+
+def told_capture(file, arguments):
+    """The lines of a capture."""
+    slices = slices_of(arguments.policy) if arguments.policy else []
+    given = [(checked_slot(arguments, name, slices), end) for name, end in arguments.slice]
+    ends = Ends(*arguments.switch_port, slots_of(given, slices, arguments.policy))
+    try:
+        yield from capture_texts(file, ends, {slot: name for slot, (name, _controller) in enumerate(slices)})
+    except Problem as problem:
+        raise Fault(str(problem), arguments.file) from None
+
+
+def checked_slot(arguments, word, slices):
+    """The slot of a slice's name or number. A word that is none has no form."""
+    try:
+        return slot_of(word, slices)
+    except ValueError as problem:
+        arguments.usage_error(f"argument --slice: {problem}")
 
 
 def report_text(line):

@@ -39,9 +39,12 @@ def options():
         yield Case(f"port {number}", pcap(timed(far[0])), far[1], ["--switch-port", f"{number}", *SLICES])
     yield from misspelled(capture, turned)
     yield Case("attached twice in vain", capture, "packet 98: no connection", [*OPTIONS, "--attach", "99=0", "--attach", "98=0"])
-    no_switch = "the capture has no connection of a switch"
-    yield Case("another port", capture, no_switch, ["--switch-port", "6634"])
-    yield Case("another address", capture, no_switch, ["--switch-port", "10.0.0.2:6633"])
+    nobody, begun = "nobody connects to", "connections begin: 1 to 10.0.0.1:6633, 1 to 10.0.0.5:6653, 1 to 10.0.0.6:6654\n"
+    yield Case("another port", capture, f"{nobody} port 6634 in the capture; {begun}", ["--switch-port", "6634"])
+    yield Case("another port, and controllers", capture, f"{nobody} port 6634 in the capture; {begun}", ["--switch-port", "6634", *SLICES])
+    yield Case("another address", capture, f"{nobody} 10.0.0.2:6633 in the capture; {begun}", ["--switch-port", "10.0.0.2:6633"])
+    yield Case("no connection at all", pcap([]), f"{nobody} port 6633 in the capture; no connection begins in it\n", port)
+    yield Case("a switch that isn't taken up", pcap(timed([switch_talk().syn()])), "the capture has no connection of a switch", port)
     yield Case("one address of two slots", capture, "slots 0 and 2 have the same", [*OPTIONS, "--slice", "2=10.0.0.5:6653"])
     for count in (32, 33, 300):
         policy = "version = 1\n" + "".join(f"[[slice]]\nname = 's{slot}'\ncontroller = '10.0.1.1:{slot + 1}'\n" for slot in range(count))

@@ -1,10 +1,11 @@
 """What all subcommands of `flowvisor-tool` have in common: their help, and how they tell of files that can't be read."""
 import os
 import pathlib
+import re
 import tempfile
 import unittest
 
-from running import EXAMPLES, run_script, run_tool
+from running import EXAMPLES, ROOT, run_script, run_tool
 
 from flowvisor_tool.files import CAPTURE_MAGICS
 
@@ -16,13 +17,18 @@ LINES, COLUMNS = 24, 80
 
 class Help(unittest.TestCase):
     def test_of_each_subcommand_is_one_screen(self):
-        for words in ([], ["lint"], ["explain"], ["show"], ["to-pcap"], ["from-pcap"]):
+        for words in ([], ["lint"], ["explain"], ["try"], ["show"], ["to-pcap"], ["from-pcap"], ["compare"], ["watch"]):
             for option in ("--help", "-h"):
                 outcome = run_script(*words, option, env={**os.environ, "COLUMNS": str(COLUMNS)})
                 self.assertEqual((outcome.returncode, outcome.stderr), (0, ""))
                 lines = outcome.stdout.splitlines()
                 self.assertLess(len(lines), LINES, words)
                 self.assertLessEqual(max(map(len, lines)), COLUMNS, words)
+
+    def test_the_version_is_that_of_the_program(self):
+        texts = (ROOT / "crates/flowvisor/src/help_and_version.rt").read_text()
+        version = re.search(r'VERSION: &str = "flowvisor (\S+) ', texts)[1]
+        self.assertEqual(run_tool("--version").out, f"flowvisor-tool {version}\n")
 
     def test_words_without_a_form(self):
         for words in ([], ["check"], ["lint"], ["show", "a", "b"], ["lint", "--policy", "a"]):
@@ -46,11 +52,22 @@ class Files(unittest.TestCase):
         """The words of each subcommand that read this file."""
         yield "lint", path
         yield "explain", path, "tcp"
+        yield "try", path, "tcp", "1"
         yield "show", path
         yield "to-pcap", path, self.new
         yield "to-pcap", REPORT, "--recording", path, self.new
         yield "from-pcap", *PORT, path, self.new
         yield "from-pcap", *PORT, "--policy", path, REPORT, self.new
+        yield "compare", *PORT, REPORT, path
+        yield "compare", *PORT, "--policy", path, self.capture(), REPORT
+        yield "watch", "--to-end", path, REPORT
+        yield "watch", "--to-end", POLICY, path
+
+    def capture(self):
+        """A capture of the shipped session."""
+        path = self.folder / "session.pcap"
+        self.assertEqual(run_tool("to-pcap", REPORT, path).status, 0)
+        return path
 
     def test_that_are_not_there(self):
         for path, reason in ((self.folder / "none", "No such file or directory"), (self.folder, "Is a directory")):
@@ -69,7 +86,7 @@ class Files(unittest.TestCase):
         path = self.folder / "capture"
         for magic in CAPTURE_MAGICS:
             path.write_bytes(magic + bytes(20))
-            for words in (("show", path), ("to-pcap", path, self.new), ("to-pcap", REPORT, "--recording", path, self.new)):
+            for words in (("to-pcap", path, self.new), ("to-pcap", REPORT, "--recording", path, self.new)):
                 self.assert_fault(f"{path}: is a capture, not a recording: see from-pcap", *words)
 
     def test_what_else_is_in_the_place_of_a_recording(self):

@@ -10,15 +10,17 @@ from program import needs_program, run_program
 from running import EXAMPLES, run_tool
 from sunworsted import SLICE_UP, SWITCH_BYTES, SWITCH_UP, features_reply, packet_in, record, recording, tcp_packet
 
-from flowvisor_tool.explain import packet_of, told
+from flowvisor_tool.explain import told
 from flowvisor_tool.faults import Fault
-from flowvisor_tool.fields import Header, header_of_words, packet_text
+from flowvisor_tool.fields import Header, packet_text
 from flowvisor_tool.frame_header import header_of, probe_slot
+from flowvisor_tool.packet_sets import packets_of
 from flowvisor_tool.policy_text import read_policy
 
 COUNT = 4000
 DATAPATH = 0xA1
 NAMES = ["alice", "bob", "carol", "dave"]
+FORMS_OF_PACKETS = "it is given by fields, as in_port=1,tcp,tp_dst=80, or by the bytes of a frame in hex"
 # Rules of one slice may overlap, and a rule that reads may come behind any; those of two slices differ by their VLAN.
 POLICY = """version = 1
 {slices}
@@ -107,6 +109,11 @@ def policy_text():
     return POLICY.format(slices="\n".join(slices))
 
 
+def header_in(text):
+    """The header of the packet that a text says."""
+    return Header(**{name: value for name, (value, _mask) in packets_of(text).pattern.constraints.items()})
+
+
 class FrameMaker:
     """Draws frames, of few values in each field, and cut off now and then."""
 
@@ -192,17 +199,17 @@ class AgainstReplay(unittest.TestCase):
 class Packets(unittest.TestCase):
     def test_by_fields(self):
         wanted = Header(in_port=1, dl_type=0x0800, nw_proto=6, nw_dst=0x0A000001, tp_dst=80)
-        self.assertEqual(header_of_words("in_port=1,tcp,nw_dst=10.0.0.1,tp_dst=80"), wanted)
-        self.assertEqual(header_of_words("tp_dst=0x50, dl_type=0x800 nw_proto=6,in_port=1,nw_dst=10.0.0.1"), wanted)
+        self.assertEqual(header_in("in_port=1,tcp,nw_dst=10.0.0.1,tp_dst=80"), wanted)
+        self.assertEqual(header_in("tp_dst=0x50, dl_type=0x800 nw_proto=6,in_port=1,nw_dst=10.0.0.1"), wanted)
         wanted = Header(in_port=0xFFFE, dl_type=0x0806, nw_proto=1, nw_src=0x0A000001, dl_vlan=10, dl_vlan_pcp=3)
-        self.assertEqual(header_of_words("in_port=LOCAL,arp,arp_op=1,arp_spa=10.0.0.1,dl_vlan=10,dl_vlan_pcp=3"), wanted)
+        self.assertEqual(header_in("in_port=LOCAL,arp,arp_op=1,arp_spa=10.0.0.1,dl_vlan=10,dl_vlan_pcp=3"), wanted)
         wanted = Header(dl_type=0x0800, nw_proto=1, tp_src=8, dl_src=0x0011223344AA, nw_tos=184)
-        self.assertEqual(header_of_words("icmp,icmp_type=8,icmp_code=0,dl_src=00:11:22:33:44:AA,nw_tos=184"), wanted)
+        self.assertEqual(header_in("icmp,icmp_type=8,icmp_code=0,dl_src=00:11:22:33:44:AA,nw_tos=184"), wanted)
 
     def test_vlan_tag(self):
         """The tag as newer versions of ovs-ofctl write it, with the bit that says that there is one."""
-        self.assertEqual(header_of_words("vlan_tci=0x0000,tcp"), header_of_words("tcp"))
-        self.assertEqual(header_of_words("vlan_tci=0xb00a"), header_of_words("dl_vlan=10,dl_vlan_pcp=5"))
+        self.assertEqual(header_in("vlan_tci=0x0000,tcp"), header_in("tcp"))
+        self.assertEqual(header_in("vlan_tci=0xb00a"), header_in("dl_vlan=10,dl_vlan_pcp=5"))
 
     def test_what_is_no_packet(self):
         for text, why in (
@@ -211,7 +218,9 @@ class Packets(unittest.TestCase):
             ("tp_dst=80", "tp_dst needs dl_type 0x0800 beside it"),
             ("ip,nw_proto=47,tp_dst=80", "tp_dst needs nw_proto 1, 6 or 17 beside it"),
             ("dl_vlan_pcp=1", "dl_vlan_pcp needs dl_vlan 0 to 4095 beside it"),
-            ("ip,nw_dst=10.0.0.0/8", "nw_dst=10.0.0.0/8: 10.0.0.0/8 is no value of nw_dst"),
+            ("ip,nw_dst=10.0.0.0/33", "nw_dst=10.0.0.0/33: 10.0.0.0/33 is no value of nw_dst"),
+            ("ip,nw_dst=10.0.0.0/8,nw_dst=10.0.0.0/9", "nw_dst=10.0.0.0/9: nw_dst is 10.0.0.0/8 already"),
+            *((empty, f"the packet is empty: {FORMS_OF_PACKETS}") for empty in ("", " ", ",", " , ")),
             ("dl_vlan=4096", "dl_vlan=4096: 4096 is no value of dl_vlan"),
             ("dl_vlan=1,dl_vlan_pcp=8", "dl_vlan_pcp=8: 8 is no value of dl_vlan_pcp"),
             ("ip,nw_tos=3", "nw_tos=3: 3 is no value of nw_tos"),
@@ -220,14 +229,14 @@ class Packets(unittest.TestCase):
             ("in_port=x,000000000001000000000002", "in_port=x is no port"),
         ):
             with self.assertRaises(Fault) as caught:
-                packet_of(text)
+                packets_of(text)
             self.assertEqual(str(caught.exception), why)
 
     def test_text_and_back(self):
         maker = FrameMaker(4)
         for _ in range(COUNT):
             header = header_of(maker.draw.choice([0, 1, 0xFFFE]), maker.frame())
-            self.assertEqual(header_of_words(packet_text(header)), header)
+            self.assertEqual(header_in(packet_text(header)), header)
 
     def test_probes(self):
         frame = bytes(12) + b"\x88\xcc" + bytes(38) + b"FVSL\2\0\0\0"
@@ -275,6 +284,56 @@ class Command(unittest.TestCase):
             self.assertIn("any other switch: no rule has it: it goes to nobody\n", outcome.out)
             outcome = self.explain("--switch", "00000000000000B2", file.name, "dl_type=0x86dd")
             self.assertIn("\nread by carol\nby switch = ", outcome.out)
+
+    def test_a_rule_that_takes_all(self):
+        policy = policy_text() + '[[rule]]\npriority = 0\nread = ["bob"]\n'
+        with tempfile.NamedTemporaryFile("w", suffix=".toml") as file:
+            file.write(policy)
+            file.flush()
+            out = self.explain("--switch", "00000000000000a1", file.name, "dl_vlan=10,dl_vlan_pcp=4").out
+        self.assertRegex(out, (
+            r"\Apacket: .*\nrule 12 .* has it, of priority 0\nwritten by nobody\nread by bob\nby no field: it has every packet\n"
+            r"nearest before it is rule 5 \(line \d+\)\nnot by dl_vlan_pcp = 5: the packet has 4\n\Z"
+        ))
+
+    def test_a_line_of_dump_flows(self):
+        flow = (
+            " cookie=0x0, duration=2.048s, table=0, n_packets=0, n_bytes=0, idle_timeout=60, idle_age=2, priority=10,"
+            "tcp,in_port=1,nw_dst=10.0.0.0/8,tp_dst=22 actions=mod_nw_dst:10.0.0.1,output:2\n"
+        )
+        self.assertEqual(
+            self.explain(EXAMPLES / "two-slices.toml", flow).out,
+            "flow: tcp,in_port=1,nw_dst=10.0.0.0/8,tp_dst=22\n"
+            "rule 1 (line 19) has it, of priority 50\n"
+            "written by bob\n"
+            "read by nobody else\n"
+            "by dl_type = 2048: the flow has 0x0800\n"
+            "by nw_proto = 6: the flow has 6\n"
+            "by tp_dst = 22: the flow has 22\n",
+        )
+        self.assertEqual(
+            self.explain(EXAMPLES / "two-slices.toml", "table=0, n_packets=0, vlan_tci=0x0000/0x1fff,udp actions=drop").out,
+            "flow: udp,vlan_tci=0x0000\nno rule has it: it goes to nobody\nnearest is rule 0 (line 12)\n"
+            "not by nw_proto = 6: the flow has 17\n",
+        )
+
+    def test_packets_of_several_rules(self):
+        for packets, why in (
+            ("priority=0 actions=drop", "any packet: some packets go by rule 0 (line 12), rule 1 (line 19), and others by no rule; say more of the flow"),
+            ("tcp,nw_src=10.0.0.0/8,actions=drop",
+             "tcp,nw_src=10.0.0.0/8: some packets go by rule 0 (line 12), rule 1 (line 19), and others by no rule; say more of the flow"),
+        ):
+            outcome = self.explain(EXAMPLES / "two-slices.toml", packets)
+            self.assertEqual((outcome.status, outcome.out, outcome.err), (1, "", f"flowvisor-tool: {why}\n"))
+        with tempfile.NamedTemporaryFile("w", suffix=".toml") as file:
+            file.write(policy_text())
+            file.flush()
+            packet = "tcp,nw_dst=10.0.0.0/29,tp_dst=22,nw_src=10.0.0.0/28"
+            outcome = self.explain("--switch", "00000000000000a1", file.name, packet)
+            self.assertRegex(outcome.err, r": on switch 0{14}a1 packets go by rule 2 \(line \d+\) and by rule 11 \(line \d+\); say more of the packet\n")
+            outcome = self.explain("--switch", "00000000000000a1", file.name, packet.replace("/29", "/30"))
+            self.assertIn("rule 2 (line ", outcome.out)
+            self.assertIn(': the packet has 10.0.0.0/30\n', outcome.out)
 
     def test_a_refused_policy(self):
         with tempfile.NamedTemporaryFile("w", suffix=".toml") as file:

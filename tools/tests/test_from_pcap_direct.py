@@ -154,7 +154,9 @@ class Direct(Converted):
             outcome = run_tool("from-pcap", *self.OPTIONS, self.capture, self.recording)
             self.assertEqual((outcome.status, outcome.err), (1, f"flowvisor-tool: {self.capture}: {text}\n"))
 
-        assert_fault(switch_talk().opening(), "the capture has no connection to the controller's port that both sides took up")
+        assert_fault(switch_talk().opening(), "nobody connects to port 6653 in the capture; connections begin: 1 to 10.0.0.1:6633")
+        call = Talk("10.0.0.9:40000", "10.0.0.5:6653").syn()
+        assert_fault([call], "the capture has no connection to the controller's port that both sides took up")
         gap = greeted().packets[:-1] + [Talk("10.0.0.9:40000", "10.0.0.5:6653").from_server(24, ECHO, seen=8)]
         assert_fault(gap, "packet 7: its side sent bytes before it that aren't in the capture")
 

@@ -1,15 +1,17 @@
 """`flowvisor-tool lint`: its verdict against that of `flowvisor check`, and what it says of each kind of mistake."""
 import pathlib
 import re
+import socket
 import tempfile
 import unittest
+import unittest.mock
 
 from policies import PolicyMaker
 from program import needs_program, run_program
 from running import EXAMPLES, run_tool
 
 from flowvisor_tool import lint
-from flowvisor_tool.fields import header_of_words
+from flowvisor_tool.packet_sets import packets_of
 from flowvisor_tool.policy_text import read_policy
 from flowvisor_tool.toml_reader import Position
 
@@ -208,7 +210,7 @@ class Overlaps(unittest.TestCase):
             rules = {rule.index: rule for rule in reading.policy.rules}
             for later, earlier, packet, switch in overlap.findall("\n".join(found.text for found in reading.faults)):
                 for rule in (rules[int(later)], rules[int(earlier)]):
-                    self.assertEqual(rule.pattern.unmet(header_of_words(packet)), [])
+                    self.assertTrue(rule.pattern.covers(packets_of(packet).pattern))
                     self.assertTrue(rule.pattern.holds_on(int(switch, 16) if switch else None))
                     count += 1
         self.assertGreater(count, 100)
@@ -234,7 +236,7 @@ class Warnings(unittest.TestCase):
         for controller, why in (
             ("c:0", "has the port 0, but a port is a number from 1 to 65535"),
             ("c:x", "has the port x, but a port is a number from 1 to 65535"),
-            ("c", "has no port: it is written as host:port"),
+            ("c", "has no port, so that it can never be dialled: it is written as host:port"),
             ("300.0.0.1:1", "has the host 300.0.0.1, which is no IPv4 address"),
             ("[::g]:1", "has the host ::g, which is no IPv6 address"),
             ("fd00::5:6633", "has an IPv6 address without brackets: it is written as [fd00::5]:6633"),
@@ -243,6 +245,22 @@ class Warnings(unittest.TestCase):
             self.assert_warned(TOP.replace("c:2", controller), f'7:14 slice 1: the controller "{controller}" {why}')
         for controller in ("127.0.0.1:6633", "[fd00::5]:65535", "c-1.example.org.:1", "localhost:06633"):
             self.assert_warned(TOP.replace("c:2", controller))
+
+    def test_a_reader_of_one_of_two_rules(self):
+        rule = '[[rule]]\npriority = {}\nwrite = "alice"\n{}dl_type = 2048\n'
+        reads = 'read = ["bob"]\n'
+        web = "nw_proto = 6\ntp_dst = 80\n"
+        missed = "8:1 bob reads rule 0 (line 8), but not rule 1 (line 13), which comes before it and has some of its packets, as tcp,tp_dst=80"
+        self.assert_warned(TOP + rule.format(1, reads) + rule.format(2, "") + web, missed)
+        self.assert_warned(
+            TOP + rule.format(1, "") + rule.format(2, reads) + web,
+            "12:1 bob reads rule 1 (line 12), but not rule 0 (line 8), which comes behind it and has packets in common with it, as tcp,tp_dst=80")
+        both = TOP + rule.format(1, reads) + rule.format(2, reads) + web
+        self.assert_warned(both)
+        never = "13:1 rule 1 (line 13) never applies: rule 0 (line 8) comes before it and has all of its packets"
+        self.assert_warned(TOP + rule.format(3, reads) + rule.format(2, "") + web, never)
+        self.assert_warned(TOP + rule.format(1, reads) + rule.format(2, "").replace("2048", "2054"))
+        self.assert_warned(TOP + rule.format(1, reads).replace("alice", "bob").replace('"bob"]', '"alice"]') + rule.format(0, reads).replace("2048", "1"))
 
     def test_one_controller_for_two(self):
         self.assert_warned(TOP.replace("c:2", "C:1"), "7:14 slice 1: the controller is that of slice 0 (line 2) too")
@@ -260,6 +278,32 @@ class Command(unittest.TestCase):
             outcome = run_tool("lint", file.name)
         self.assertEqual(outcome.status, 0)
         self.assertRegex(outcome.out, r"\A.*:7:14: warning: .*\naccepted: 2 slices, 0 rules, 1 warning\n\Z")
+
+    def test_strict(self):
+        with tempfile.NamedTemporaryFile("w", suffix=".toml") as file:
+            file.write(TOP.replace("c:2", "c:0"))
+            file.flush()
+            self.assertEqual([run_tool("lint", *words, file.name).status for words in ([], ["--strict"])], [0, 1])
+        self.assertEqual(run_tool("lint", "--strict", EXAMPLES / "two-slices.toml").status, 0)
+
+    def test_names_that_are_resolved(self):
+        hosts = {"here": None, "nowhere": socket.gaierror(-2, "Name or service not known"), "x" * 64: UnicodeError()}
+
+        def resolve(host, port, **_):
+            self.assertEqual(port, 1)
+            if hosts[host] is not None:
+                raise hosts[host]
+
+        with tempfile.NamedTemporaryFile("w", suffix=".toml") as file, unittest.mock.patch("socket.getaddrinfo", resolve):
+            for host, told_of in (("here", ""), ("nowhere", "Name or service not known")):
+                file.seek(0)
+                file.write(TOP.replace("c:1", f"{host}:1").replace("c:2", "here:1"))
+                file.truncate()
+                file.flush()
+                out = run_tool("lint", "--resolve", file.name).out
+                why = f'{file.name}:4:14: warning: slice 0: the controller "{host}:1" has the host {host}, which isn\'t resolved here: '
+                self.assertEqual([line for line in out.splitlines() if "resolved" in line], [why + told_of] if told_of else [])
+                self.assertNotIn("resolved", run_tool("lint", file.name).out)
 
     def test_refused(self):
         with tempfile.NamedTemporaryFile("w", suffix=".toml") as file:

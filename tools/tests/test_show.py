@@ -158,10 +158,6 @@ class Recordings(Folder):
         ):
             self.assert_fault(self.file("recording", data), text)
 
-    def test_captures_are_told(self):
-        for magic in ("a1b2c3d4", "d4c3b2a1", "a1b23c4d", "4d3cb2a1", "0a0d0d0a"):
-            self.assert_fault(self.file("capture", bytes.fromhex(magic) + bytes(20)), "is a capture, not a recording: see from-pcap")
-
     def test_bounded_memory(self):
         """Of 200 MiB there is never more than a record in memory."""
         path = self.folder / "large"

@@ -1,0 +1,1 @@
+"""What `flowvisor-tool watch` follows and shows."""

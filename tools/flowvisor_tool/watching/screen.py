@@ -1,0 +1,99 @@
+"""The state as plain text, for a terminal."""
+INDENT = "  "
+
+
+def screen_of(state, columns, lines):
+    """The text of one screen: what doesn't fit is told by its number of lines."""
+    rows = [row[:columns] for row in rows_of(state)]
+    if len(rows) > lines:
+        rows = rows[: lines - 1] + [f".. and {len(rows) - lines + 1} lines more"[:columns]]
+    return "\n".join(rows)
+
+
+def rows_of(state):
+    """All rows."""
+    capture = state["capture"]
+    yield f"{state['policy']}  {state['time']}  {number(capture['packets'])} packets{left_out(capture)}"
+    for switch in state["switches"]:
+        yield ""
+        yield from switch_rows(switch)
+    for stray in state["strays"]:
+        yield ""
+        yield f"{stray['name']} ({stray['controller']}), for a switch that isn't known yet: {connection(stray)}"
+    if not state["switches"]:
+        yield ""
+        yield "no switch has connected"
+    yield ""
+    for time, text in reversed(state["happenings"]):
+        yield f"{time[11:]} {text}"
+
+
+def left_out(capture):
+    """What couldn't be read, where there is any."""
+    parts = [
+        f"{number(capture[key])} {words}"
+        for key, words in (
+            ("missing", "bytes missing"), ("unread", "bytes not understood"), ("unreadable", "packets unreadable"),
+            ("forgotten", "switches forgotten"),
+        )
+        if capture[key]
+    ]
+    return "".join(f", {part}" for part in parts)
+
+
+def switch_rows(switch):
+    """The rows of a switch."""
+    yield f"switch {switch['name']}  {switch['address'] if switch['known'] else 'its datapath id is not known'}  {connection(switch)}"
+    yield f"{INDENT}from it {rates(switch['sent'])}   to it {rates(switch['got'])}"
+    if switch["nobody"]:
+        yield f"{INDENT}packets for nobody: {number(switch['nobody'])}, the last {switch['last_nobody']}"
+    if switch["errors"]:
+        yield f"{INDENT}errors of it: {number(switch['errors'])}"
+    for one in switch["slices"]:
+        yield from slice_rows(one)
+
+
+def slice_rows(one):
+    """The rows of a slice."""
+    yield f"{INDENT}{one['name']}  {one['controller']}  {connection(one)}"
+    if not one["connections"]:
+        return
+    yield f"{2 * INDENT}from it {rates(one['sent'])}   to it {rates(one['got'])}"
+    refused = sum(count for _code, count in one["refused"])
+    codes = ", ".join(f"{number(count)} {code}" for code, count in one["refused"][:3])
+    least = "at least " if one["entries_at_least"] else ""
+    yield (
+        f"{2 * INDENT}flow-mods {number(one['flow_mods'])}, as {number(one['pieces'])} to the switch; "
+        f"refused {number(refused)}{f' ({codes})' if codes else ''}; "
+        f"entries {least}{one['entries']} of {one['quota']}; rate {one['rated']} of {one['rate']}/s"
+    )
+    if one["refusals"]:
+        yield f"{2 * INDENT}last refused: {one['refusals'][-1][1]}"
+
+
+def connection(party):
+    """Whether a party is connected, since when, and why not."""
+    if not party["connections"]:
+        return f"down: {party['reason']}"
+    since = f"since before {party['since'][11:19]}" if party["late"] else f"since {party['since'][11:19]}"
+    text = f"{'up' if party['up'] else 'down'} {since} ({duration(party['seconds'])})"
+    return f"{text}: {party['reason']}" if party["reason"] else text
+
+
+def duration(seconds):
+    """Some seconds, as people say it."""
+    minutes, seconds = divmod(seconds, 60)
+    hours, minutes = divmod(minutes, 60)
+    return f"{hours}h{minutes:02d}m" if hours else f"{minutes}m{seconds:02d}s" if minutes else f"{seconds}s"
+
+
+def rates(pairs):
+    """Messages a second, all and by type."""
+    total = sum(count for _name, count in pairs)
+    types = ", ".join(f"{name} {number(count)}" for name, count in pairs[:4])
+    return f"{number(total)}/s" + (f" ({types})" if types else "")
+
+
+def number(count):
+    """A number, its digits in threes."""
+    return f"{count:,}"
