@@ -1,0 +1,12 @@
+pub mod Patched
+pub mod Matches
+pub mod ActionTurns
+pub mod FlowModTurns
+pub mod PacketOutTurns
+pub mod Shown
+pub mod ByKind
+pub mod Asked
+pub mod ReadTurned
+pub mod StayBytes
+pub mod Same
+pub mod Each

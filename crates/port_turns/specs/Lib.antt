@@ -1,0 +1,4 @@
+pub mod Turns
+pub mod Turned
+pub mod Readings
+pub mod Rows

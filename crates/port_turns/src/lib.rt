@@ -1,0 +1,8 @@
+//! The port numbers of a slice's own: its messages and those that it is sent, with the numbers exchanged that
+//! its swaps name.
+#![tactic(auto)]
+
+pub mod laws;
+mod values;
+
+pub use values::{turned_flow_mod, turned_packet_out, turned_queues, turned_request};
