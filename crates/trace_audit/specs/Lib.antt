@@ -1,0 +1,4 @@
+pub mod Judging
+pub mod Facts
+pub mod Auditing
+pub mod Standing
