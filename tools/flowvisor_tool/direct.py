@@ -134,7 +134,7 @@ class DirectRecorder:
         if not self.numbers.begun:
             raise Problem(None, NO_SWITCH)
         if not self.has_slice:
-            self.lines.append(f"slot {self.slot}: no connection is recorded, since no switch told its features")
+            self.lines.append(f"slot {self.slot}: no connection is recorded, since no switch sent its features")
         for kind, count in sorted(self.answers.items()):
             self.lines.append(f"left out: {count} {message_type_of(kind)} (answers to the controller)")
         if self.buffered:

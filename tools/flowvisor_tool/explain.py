@@ -1,4 +1,4 @@
-"""Tells who gets a packet under a policy, and by which rule."""
+"""Says who gets a packet under a policy, and by which rule."""
 import argparse
 import re
 

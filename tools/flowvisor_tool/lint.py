@@ -1,4 +1,4 @@
-"""Tells all that is wrong with a policy, each with its line and column, and what looks like a mistake."""
+"""Prints all that is wrong with a policy, each with its line and column, and what looks like a mistake."""
 from .controllers import controller_warnings, unresolved_names
 from .fields import packet_text
 from .policy import Finding, hidden_pairs, packet_in_both, partly_read_pairs

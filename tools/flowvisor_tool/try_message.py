@@ -1,4 +1,4 @@
-"""Tells what becomes of a flow-mod or a packet-out of a slice: what the switch is sent, or the error, and why."""
+"""Says what becomes of a flow-mod or a packet-out of a slice: what the switch is sent, or the error, and why."""
 import argparse
 import re
 
@@ -38,7 +38,7 @@ def add_arguments(parser):
     parser.usage = USAGE
     parser.epilog = EPILOG
     add = parser.add_argument
-    add("--slice", metavar="NAME", help="whose controller sends it; without this each is told of")
+    add("--slice", metavar="NAME", help="whose controller sends it; without this each is tried")
     add("--switch", metavar="ID", type=datapath, help="the switch's datapath id, in 16 hex digits")
     add("--ports", metavar="PORTS", type=ports, default=None, help="the switch's ports, as 1,2,5-8: for flood and all")
     add("--command", metavar="WORD", choices=COMMANDS, help="that of a flow-mod: add, or as modify_strict")

@@ -146,7 +146,7 @@ class Direct(Converted):
     def test_without_features(self):
         self.assert_recorded(
             Speech().switch(HELLO).controller(HELLO, ASKED).packets, [record(SWITCH_UP, 2), record(SWITCH_BYTES, 3, HELLO)], TOLD,
-            "slot 1: no connection is recorded, since no switch told its features")
+            "slot 1: no connection is recorded, since no switch sent its features")
 
     def test_faults(self):
         def assert_fault(packets, text):

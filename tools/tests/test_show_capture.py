@@ -35,7 +35,7 @@ SMALL_RUN = f"""\
 19 18ms from switch 10.0.0.9:40000 ECHO_REQUEST xid=0x00000002 data=aabbccdd
 end 19
 """
-LATE = "was open before the capture began: which switch it is isn't known where it doesn't tell its features again"
+LATE = "was open before the capture began: which switch it is isn't known where it doesn't send its features again"
 
 
 class Captures(unittest.TestCase):

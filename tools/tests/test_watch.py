@@ -29,7 +29,7 @@ from sunworsted import message, packet_in, tcp_packet
 
 UP = [
     "switch at 10.1.0.161:20000: connected",
-    "switch 00000000000000a1: told its features, at 10.1.0.161:20000",
+    "switch 00000000000000a1: sent its features, at 10.1.0.161:20000",
     "switch 00000000000000a1: alice: up: 127.0.0.1:6633",
     "switch 00000000000000a1: bob: up: 127.0.0.1:6634",
 ]
@@ -77,7 +77,7 @@ class Connections(unittest.TestCase):
             "switch 00000000000000a1: alice: down: the proxy ended it",
             "switch 00000000000000a1: bob: down: the proxy ended it",
             "switch at 10.1.0.161:20003: connected",
-            "switch 00000000000000a1: told its features, at 10.1.0.161:20003",
+            "switch 00000000000000a1: sent its features, at 10.1.0.161:20003",
         ])
         watched = scene.watched()
         self.assertEqual(len(watched.watcher.world.switches), 1)

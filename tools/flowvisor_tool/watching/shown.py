@@ -8,8 +8,8 @@ from .growing import GrowingCapture
 from .links import How
 
 READ_SIZE = 1 << 16
-LATE_SWITCH = "was open before the capture began: which switch it is isn't known where it doesn't tell its features again"
-LATE_SLICE = "was open before the capture began: for which switch it is isn't known where the proxy doesn't tell its features again"
+LATE_SWITCH = "was open before the capture began: which switch it is isn't known where it doesn't send its features again"
+LATE_SLICE = "was open before the capture began: for which switch it is isn't known where the proxy doesn't send its features again"
 ENDS = {
     How.END: "ended by {}", How.RESET: "reset by {}", How.REFUSED: "refused by {}",
     How.REPLACED: "ended: another connection has its ports", How.FORGOTTEN: "not followed any more: there are too many",

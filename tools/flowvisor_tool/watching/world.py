@@ -180,7 +180,7 @@ class World:
         before = next((other for other in self.switches if other.datapath == datapath), None)
         if before is None:
             switch.datapath = datapath
-            self.tell(f"switch {switch.name()}: told its features, at {switch.address}")
+            self.tell(f"switch {switch.name()}: sent its features, at {switch.address}")
             return
         if before.link is not None:
             self.detach(before.link, "another connection has its datapath id")
@@ -192,7 +192,7 @@ class World:
         for slot, here in switch.slices.items():
             if here.link is not None:
                 self.attach(here.link, before)
-        self.tell(f"switch {before.name()}: told its features, at {before.address}")
+        self.tell(f"switch {before.name()}: sent its features, at {before.address}")
 
     # Time.
 
