@@ -43,11 +43,12 @@ check-tools:
 	@program=$${FLOWVISOR:-$(program)}; if test -x "$$program"; then tools/try-operating "$$program"; \
 	else echo "there is no program $$program: the examples, and the tests that compare with it, were left out"; fi
 
-# What docs/OPERATING.md shows of `serve` with Open vSwitch, controllers of two makes and haproxy: with the program that
-# FLOWVISOR names, or the built one. It is no part of the gate.
+# `serve` with Open vSwitch, controllers of two makes and haproxy, and docs/TUTORIAL.md: with the program that FLOWVISOR
+# names, or the built one. It is no part of the gate.
 check-live:
 	@if test -z "$$FLOWVISOR"; then $(MAKE) -s build; fi
 	@tools/check-live "$${FLOWVISOR:-$(program)}"
+	@tools/try-operating "$${FLOWVISOR:-$(program)}" docs/TUTORIAL.md
 
 install: build
 	install -d "$(bin)" "$(manual)" "$(completions)"

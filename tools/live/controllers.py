@@ -7,7 +7,7 @@ import time
 from flowvisor_tool.openflow.protocol import HEADER, MessageType
 from sunworsted import ROOT, message
 
-PYTHON_BLOCK = re.compile(r"^```python\n(.*?)^```$", re.MULTILINE | re.DOTALL)
+PYTHON_BLOCK = re.compile(r"^```python bob\.py\n(.*?)^```$", re.MULTILINE | re.DOTALL)
 LISTENED = "127.0.0.1"
 DATAPATH_SIZE = 8
 
@@ -19,9 +19,9 @@ def learning_switch(processes, port, seal=None):
 
 
 def bob(processes, port):
-    """Bob's controller: the program of docs/OPERATING.md, which os-ken runs."""
+    """Bob's controller: the program of docs/TUTORIAL.md, which os-ken runs."""
     program = processes.folder / "bob.py"
-    program.write_text(PYTHON_BLOCK.search((ROOT / "docs/OPERATING.md").read_text())[1])
+    program.write_text(PYTHON_BLOCK.search((ROOT / "docs/TUTORIAL.md").read_text())[1])
     return processes.start("bob", "osken-manager", "--ofp-listen-host", LISTENED, "--ofp-tcp-listen-port", port, program)
 
 
