@@ -22,7 +22,7 @@ slice_writer slot = record { served = TheSlice slot; reads = false; address = []
 abbrev pub role_of : {Dial C G In Out : Type 0} → Job Dial C G In Out → Role
 role_of (ReadSwitch clock gate) = switch_reader
 role_of WriteSwitch = switch_writer
-role_of (ReadSlice slot to dialer clock gate) = slice_reader slot (string_bytes to)
+role_of (ReadSlice reader) = slice_reader reader.slot (string_bytes reader.address)
 role_of (WriteSlice slot) = slice_writer slot
 
 abbrev pub switch_pair : List Role

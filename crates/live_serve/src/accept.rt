@@ -8,7 +8,7 @@ ghost use Rattle.live_serve.specs.Roles.{controller_of, group, Partly};
 ghost use Rattle.live_serve.specs.Running.{outside, EndsBy, IsRunCause};
 
 use crate::connection::{Connection, SESSIONS, Sessions};
-use crate::group::{StartFault, start_group};
+use crate::group::{StartFault, WorkFacts, start_group};
 use crate::work::SessionWork;
 use flowspace::Policy;
 use fv_live::{Clock, Host, Spawner, Wires};
@@ -37,7 +37,7 @@ fn is_full<R: Wait>(rt: &R, sessions: &Sessions, begun: u32) -> bool
     begun >= SESSIONS && sessions.are_full(rt)
 }
 
-/// Starts the works of one connection. Where all were started, a session more runs, and they are given its halves.
+/// Starts the works of one connection. Where all were started, a session more runs, and they are given the halves.
 fn open<
     R: Host + Net<Listener = TcpListener, Stream = TcpStream>,
     N: Wires,
@@ -46,14 +46,11 @@ fn open<
     P: Spawner<SessionWork<N, C, G>>,
 >(
     rt: &R,
-    alloc: Global,
     policy: &Policy,
     sessions: &Arc<Sessions, Global>,
-    source: N::In,
-    sink: N::Out,
+    halves: (N::In, N::Out),
     wires: &N,
-    clock: &C,
-    gate: &G,
+    facts: &WorkFacts<'_, C, G>,
     spawner: &mut P,
 ) -> Result<(), StartFault>
     requires can { P.can_start spawner.old }
@@ -66,25 +63,16 @@ fn open<
     let Ok(theirs) = Arc::try_clone(sessions) else {
         return Err(StartFault::Memory);
     };
-    let Ok((connection, mut seat)) = Connection::<N>::new(alloc, policy, theirs) else {
+    let Ok((connection, mut seat)) = Connection::<N>::new(facts.alloc, policy, theirs) else {
         return Err(StartFault::Memory);
     };
     let slices = policy.slices();
-    if let Err(fault) = start_group(
-        rt,
-        alloc,
-        &connection,
-        &mut seat,
-        wires,
-        slices,
-        clock,
-        gate,
-        spawner,
-    ) {
+    if let Err(fault) = start_group(rt, &connection, &mut seat, wires, slices, facts, spawner) {
         connection.cancel(rt);
         return Err(fault);
     }
     sessions.begin(rt);
+    let (source, sink) = halves;
     connection.begin(rt, source, sink);
     Ok(())
 }
@@ -99,12 +87,10 @@ pub(crate) fn accept_all<
     P: Spawner<SessionWork<N, C, G>>,
 >(
     rt: &R,
-    alloc: Global,
     policy: &Policy,
     count: u32,
     wires: &mut N,
-    clock: &C,
-    gate: &G,
+    facts: &WorkFacts<'_, C, G>,
     spawner: &mut P,
 ) -> RunEnd
     requires listens { N.listens wires.old ≡ true }
@@ -112,24 +98,21 @@ pub(crate) fn accept_all<
     ensures can { P.can_start spawner.new }
     ensures cause { IsRunCause (map controller_of policy.now.slices) count (outside (N.accepted wires.old) (P.roles spawner.old) (N.faults wires.old (N.place wires.old)) (P.faults spawner.old)) (outside (N.accepted wires.new) (P.roles spawner.new) (N.faults wires.new (N.place wires.old)) (P.faults spawner.new)) result }
 {
-    let Ok(sessions) = Arc::new(alloc, Sessions::new()) else {
+    let Ok(sessions) = Arc::new(facts.alloc, Sessions::new()) else {
         return RunEnd::NoMemory;
     };
     let mut accepted = 0;
     let mut begun = 0;
     while accepted < count {
-        let Ok((source, sink)) = wires.accept(rt) else {
+        let Ok(halves) = wires.accept(rt) else {
             return RunEnd::WireFault;
         };
         accepted += 1;
         if is_full(rt, &sessions, begun) {
-            drop(source);
-            drop(sink);
+            drop(halves);
             continue;
         }
-        if let Err(fault) = open(
-            rt, alloc, policy, &sessions, source, sink, wires, clock, gate, spawner,
-        ) {
+        if let Err(fault) = open(rt, policy, &sessions, halves, wires, facts, spawner) {
             return run_end(fault);
         }
         begun += 1;

@@ -7,7 +7,7 @@ ghost use Rattle.live_serve.specs.declared.group.StartFault.TheVariants.{Start};
 ghost use Rattle.live_serve.specs.Roles.{role_of, controller_of, group, slice_roles, slice_reader, switch_reader, switch_pair, pair, Partly};
 
 use crate::connection::Connection;
-use crate::work::{Job, SessionWork};
+use crate::work::{Job, SessionWork, SliceReader};
 use flowspace::Slice;
 use fv_live::{Clock, Dialer, Host, Spawner, Wires};
 use live_session::{DeskObject, Gate};
@@ -26,6 +26,21 @@ pub(crate) enum StartFault {
     Start,
     /// Memory ran out, or the seat has too few calls.
     Memory,
+}
+
+/// The allocator of the works, and the clock and the gate of which each reader is given clones.
+#[derive(Drop)]
+pub(crate) struct WorkFacts<'a, C: Clock, G: Gate> {
+    pub(crate) alloc: Global,
+    pub(crate) clock: &'a C,
+    pub(crate) gate: &'a G,
+}
+
+/// A slice by its slot, and where its controller listens.
+#[derive(Drop)]
+struct SliceAddress<'a> {
+    slot: u8,
+    address: &'a str,
 }
 
 /// Starts one work with a seat of its own.
@@ -71,17 +86,19 @@ fn start_one<
 
 /// What a slice's reader does.
 fn slice_reader<D: Dialer, C: Clock + Clone, G: Gate + Clone>(
-    alloc: Global,
-    slot: u8,
-    address: &str,
+    facts: &WorkFacts<'_, C, G>,
+    slice: &SliceAddress<'_>,
     dialer: D,
-    clock: &C,
-    gate: &G,
 ) -> Result<Job<D, C, G>, AllocError>
-    ensures { IfOk result (λ job. role_of job ≡ slice_reader slot address.now) }
+    ensures { IfOk result (λ job. role_of job ≡ slice_reader slice.now.slot slice.now.address.now) }
 {
-    let to = String::from_str(alloc, address)?;
-    Ok(Job::ReadSlice(slot, to, dialer, clock.clone()?, gate.clone()?))
+    Ok(Job::ReadSlice(SliceReader {
+        slot: slice.slot,
+        address: String::from_str(facts.alloc, slice.address)?,
+        dialer,
+        clock: facts.clock.clone()?,
+        gate: facts.gate.clone()?,
+    }))
 }
 
 /// Starts the reader and the writer of a slice.
@@ -93,30 +110,27 @@ fn start_pair<
     P: Spawner<SessionWork<N, C, G>>,
 >(
     rt: &R,
-    alloc: Global,
     connection: &Arc<Connection<N>, Global>,
     seat: &mut TurnSeat<DeskObject>,
     wires: &N,
-    slot: u8,
-    address: &str,
-    clock: &C,
-    gate: &G,
+    slice: &SliceAddress<'_>,
+    facts: &WorkFacts<'_, C, G>,
     spawner: &mut P,
 ) -> Result<(), StartFault>
     requires can { P.can_start spawner.old }
     requires desk { IsSeatOf (arc_value connection.now).desk seat.old }
     ensures can { P.can_start spawner.new }
     ensures desk { SameDesk seat.new seat.old }
-    ensures started { OnOk result (P.roles spawner.new ≡ started (P.roles spawner.old) (pair slot address.now)) }
-    ensures part { OnErr result (Partly (P.roles spawner.old) (pair slot address.now) (P.roles spawner.new)) }
+    ensures started { OnOk result (P.roles spawner.new ≡ started (P.roles spawner.old) (pair slice.now.slot slice.now.address.now)) }
+    ensures part { OnErr result (Partly (P.roles spawner.old) (pair slice.now.slot slice.now.address.now) (P.roles spawner.new)) }
     ensures cause { IfErr result (λ fault. fault ≡ Start → Rose (P.faults spawner.old) (P.faults spawner.new)) }
     ensures count { P.faults spawner.old ≤ P.faults spawner.new }
 {
-    let Ok(reader) = slice_reader(alloc, slot, address, wires.dialer(), clock, gate) else {
+    let Ok(reader) = slice_reader(facts, slice, wires.dialer()) else {
         return Err(StartFault::Memory);
     };
     start_one(rt, connection, seat, reader, spawner)?;
-    start_one(rt, connection, seat, Job::WriteSlice(slot), spawner)
+    start_one(rt, connection, seat, Job::WriteSlice(slice.slot), spawner)
 }
 
 /// Starts the readers and the writers of all slices.
@@ -128,13 +142,11 @@ fn start_slices<
     P: Spawner<SessionWork<N, C, G>>,
 >(
     rt: &R,
-    alloc: Global,
     connection: &Arc<Connection<N>, Global>,
     seat: &mut TurnSeat<DeskObject>,
     wires: &N,
     slices: &[Slice],
-    clock: &C,
-    gate: &G,
+    facts: &WorkFacts<'_, C, G>,
     spawner: &mut P,
 ) -> Result<(), StartFault>
     requires few { length slices.now ≤ 32 }
@@ -148,30 +160,22 @@ fn start_slices<
     ensures count { P.faults spawner.old ≤ P.faults spawner.new }
 {
     for (i, slice) in slices.iter().enumerate() {
-        start_pair(
-            rt,
-            alloc,
-            connection,
-            seat,
-            wires,
-            i as u8,
-            slice.controller.as_str(),
-            clock,
-            gate,
-            spawner,
-        )?;
+        let slice = SliceAddress {
+            slot: i as u8,
+            address: slice.controller.as_str(),
+        };
+        start_pair(rt, connection, seat, wires, &slice, facts, spawner)?;
     }
     Ok(())
 }
 
 /// What the switch's reader does.
 fn switch_reader<D: Dialer, C: Clock + Clone, G: Gate + Clone>(
-    clock: &C,
-    gate: &G,
+    facts: &WorkFacts<'_, C, G>,
 ) -> Result<Job<D, C, G>, AllocError>
     ensures { IfOk result (λ job. role_of job ≡ switch_reader) }
 {
-    Ok(Job::ReadSwitch(clock.clone()?, gate.clone()?))
+    Ok(Job::ReadSwitch(facts.clock.clone()?, facts.gate.clone()?))
 }
 
 /// Starts the reader and the writer of the switch.
@@ -185,8 +189,7 @@ fn start_switch<
     rt: &R,
     connection: &Arc<Connection<N>, Global>,
     seat: &mut TurnSeat<DeskObject>,
-    clock: &C,
-    gate: &G,
+    facts: &WorkFacts<'_, C, G>,
     spawner: &mut P,
 ) -> Result<(), StartFault>
     requires can { P.can_start spawner.old }
@@ -198,7 +201,7 @@ fn start_switch<
     ensures cause { IfErr result (λ fault. fault ≡ Start → Rose (P.faults spawner.old) (P.faults spawner.new)) }
     ensures count { P.faults spawner.old ≤ P.faults spawner.new }
 {
-    let Ok(reader) = switch_reader(clock, gate) else {
+    let Ok(reader) = switch_reader(facts) else {
         return Err(StartFault::Memory);
     };
     start_one(rt, connection, seat, reader, spawner)?;
@@ -214,13 +217,11 @@ pub(crate) fn start_group<
     P: Spawner<SessionWork<N, C, G>>,
 >(
     rt: &R,
-    alloc: Global,
     connection: &Arc<Connection<N>, Global>,
     seat: &mut TurnSeat<DeskObject>,
     wires: &N,
     slices: &[Slice],
-    clock: &C,
-    gate: &G,
+    facts: &WorkFacts<'_, C, G>,
     spawner: &mut P,
 ) -> Result<(), StartFault>
     requires few { length slices.now ≤ 32 }
@@ -233,8 +234,6 @@ pub(crate) fn start_group<
     ensures cause { IfErr result (λ fault. fault ≡ Start → Rose (P.faults spawner.old) (P.faults spawner.new)) }
     ensures count { P.faults spawner.old ≤ P.faults spawner.new }
 {
-    start_switch(rt, connection, seat, clock, gate, spawner)?;
-    start_slices(
-        rt, alloc, connection, seat, wires, slices, clock, gate, spawner,
-    )
+    start_switch(rt, connection, seat, facts, spawner)?;
+    start_slices(rt, connection, seat, wires, slices, facts, spawner)
 }

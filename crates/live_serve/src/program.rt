@@ -8,6 +8,7 @@ ghost use Rattle.live_serve.specs.Serving.{IsServeCause, ServeCauses, LeavesRead
 
 use crate::accept::{RunEnd, accept_all};
 use crate::finish::Finish;
+use crate::group::WorkFacts;
 use crate::work::SessionWork;
 use flowspace::Policy;
 use fv_base::{Files, Form, Sink, Words, WordsFault, read_words};
@@ -26,13 +27,11 @@ fn run<
     P: Spawner<SessionWork<N, C, G>>,
 >(
     rt: &R,
-    alloc: Global,
     policy: &Policy,
     listen: &str,
     count: u32,
     wires: &mut N,
-    clock: &C,
-    gate: &G,
+    facts: &WorkFacts<'_, C, G>,
     spawner: &mut P,
 ) -> RunEnd
     requires silent { N.listens wires.old ≡ false }
@@ -43,7 +42,16 @@ fn run<
     let Ok(()) = wires.listen(rt, listen) else {
         return RunEnd::WireFault;
     };
-    accept_all(rt, alloc, policy, count, wires, clock, gate, spawner)
+    accept_all(rt, policy, count, wires, facts, spawner)
+}
+
+/// What the words of `serve` ask for: the path of the policy, the place where to listen, and how many connections are
+/// to be accepted.
+#[derive(Drop)]
+struct Asked<'a> {
+    policy: &'a str,
+    listen: &'a str,
+    count: u32,
 }
 
 /// Serves with the policy at a path.
@@ -56,30 +64,32 @@ fn serve_with<
     P: Spawner<SessionWork<N, C, G>>,
 >(
     rt: &R,
-    alloc: Global,
-    policy: &str,
-    listen: &str,
-    count: u32,
+    asked: &Asked<'_>,
     files: &mut F,
     wires: &mut N,
-    clock: &C,
-    gate: &G,
+    facts: &WorkFacts<'_, C, G>,
     spawner: &mut P,
 ) -> Finish
     requires silent { N.listens wires.old ≡ false }
     requires can { P.can_start spawner.old }
     ensures can { P.can_start spawner.new }
-    ensures cause { IsServeCause (record { files = F.contents files.old; before = F.faults files.old; after = F.faults files.new }) policy.now count (outside (N.accepted wires.old) (P.roles spawner.old) (N.faults wires.old listen.now) (P.faults spawner.old)) (outside (N.accepted wires.new) (P.roles spawner.new) (N.faults wires.new listen.now) (P.faults spawner.new)) result }
+    ensures cause { IsServeCause (record { files = F.contents files.old; before = F.faults files.old; after = F.faults files.new }) asked.now.policy.now asked.now.count (outside (N.accepted wires.old) (P.roles spawner.old) (N.faults wires.old asked.now.listen.now) (P.faults spawner.old)) (outside (N.accepted wires.new) (P.roles spawner.new) (N.faults wires.new asked.now.listen.now) (P.faults spawner.new)) result }
     ensures reads { LeavesReads result (F.faults files.old) (F.faults files.new) }
 {
-    let policy = match load_policy(alloc, files, policy) {
+    let policy = match load_policy(facts.alloc, files, asked.policy) {
         Ok(policy) => policy,
         Err(ending) => return Finish::Early(ending),
     };
     // A call on the policy tells the proof that it is accepted.
     let _slices = policy.slices();
     let end = run(
-        rt, alloc, &policy, listen, count, wires, clock, gate, spawner,
+        rt,
+        &policy,
+        asked.listen,
+        asked.count,
+        wires,
+        facts,
+        spawner,
     );
     Finish::Ran(end)
 }
@@ -94,12 +104,10 @@ fn decide<
     P: Spawner<SessionWork<N, C, G>>,
 >(
     rt: &R,
-    alloc: Global,
     words: &Words,
     files: &mut F,
     wires: &mut N,
-    clock: &C,
-    gate: &G,
+    facts: &WorkFacts<'_, C, G>,
     spawner: &mut P,
 ) -> Finish
     requires silent { N.listens wires.old ≡ false }
@@ -115,9 +123,14 @@ fn decide<
                 listen,
                 count,
             },
-        ) => serve_with(
-            rt, alloc, policy, listen, count, files, wires, clock, gate, spawner,
-        ),
+        ) => {
+            let asked = Asked {
+                policy,
+                listen,
+                count,
+            };
+            serve_with(rt, &asked, files, wires, facts, spawner)
+        }
         Ok(Form::Check { .. }) => Finish::Early(Ending::Usage),
         Ok(Form::Replay { .. }) => Finish::Early(Ending::Usage),
         Ok(Form::Gen { .. }) => Finish::Early(Ending::Usage),
@@ -167,7 +180,8 @@ pub fn serve<
     ensures ended { ServeEnded (record { files = F.contents files.old; before = F.faults files.old; after = F.faults files.new }) (λ at. outside (N.accepted wires.old) (P.roles spawner.old) (N.faults wires.old at) (P.faults spawner.old)) (λ at. outside (N.accepted wires.new) (P.roles spawner.new) (N.faults wires.new at) (P.faults spawner.new)) words.now (E.contents err.old) (E.contents err.new) (E.faults err.old) (E.faults err.new) result }
     ensures complete { ServeCompletes (record { files = F.contents files.old; before = F.faults files.old; after = F.faults files.new }) (λ at. outside (N.accepted wires.old) (P.roles spawner.old) (N.faults wires.old at) (P.faults spawner.old)) (λ at. outside (N.accepted wires.new) (P.roles spawner.new) (N.faults wires.new at) (P.faults spawner.new)) (form_of words.now) result }
 {
-    let finish = decide(rt, alloc, words, files, wires, clock, gate, spawner);
+    let facts = WorkFacts { alloc, clock, gate };
+    let finish = decide(rt, words, files, wires, &facts, spawner);
     spawner.finish(rt);
     finish.say(err);
     finish.status()

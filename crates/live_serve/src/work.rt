@@ -15,12 +15,22 @@ use turn_desk::TurnSeat;
 /// The wait before another attempt to end a switch for which there was no memory, in milliseconds.
 const WAIT_FOR_MEMORY: u64 = 10;
 
+/// What the reader of a slice's links works with. `address` is where its controller listens.
+#[derive(Drop)]
+pub(crate) struct SliceReader<D: Dialer, C: Clock, G: Gate> {
+    pub(crate) slot: u8,
+    pub(crate) address: String,
+    pub(crate) dialer: D,
+    pub(crate) clock: C,
+    pub(crate) gate: G,
+}
+
 /// What a work does.
 #[derive(Drop)]
 pub(crate) enum Job<D: Dialer, C: Clock, G: Gate> {
     ReadSwitch(C, G),
     WriteSwitch,
-    ReadSlice(u8, String, D, C, G),
+    ReadSlice(SliceReader<D, C, G>),
     WriteSlice(u8),
 }
 
@@ -57,18 +67,7 @@ impl<N: Wires, C: Clock, G: Gate> Work for SessionWork<N, C, G> {
                 write_switch(rt, shared, &mut seat);
                 shared.end_of_switch(rt);
             }
-            Job::ReadSlice(slot, to, mut dialer, mut clock, gate) => {
-                read_links(
-                    rt,
-                    shared,
-                    &mut seat,
-                    &mut dialer,
-                    &to,
-                    slot,
-                    &mut clock,
-                    &gate,
-                )
-            }
+            Job::ReadSlice(reader) => read_links(rt, shared, &mut seat, reader),
             Job::WriteSlice(slot) => write_links(rt, shared, &mut seat, slot),
         }
         shared.end_work(rt);
@@ -157,14 +156,17 @@ fn read_links<
     rt: &R,
     shared: &Connection<N>,
     seat: &mut TurnSeat<DeskObject>,
-    dialer: &mut N::Dial,
-    to: &str,
-    slot: u8,
-    clock: &mut C,
-    gate: &G,
+    reader: SliceReader<N::Dial, C, G>,
 )
     requires desk { IsSeatOf shared.now.desk seat.old }
 {
+    let SliceReader {
+        slot,
+        address,
+        mut dialer,
+        mut clock,
+        gate,
+    } = reader;
     let Some(half) = shared.links.get(usize::from(slot)) else {
         return;
     };
@@ -173,11 +175,11 @@ fn read_links<
         shared.alloc,
         &shared.desk,
         seat,
-        dialer,
-        to,
+        &mut dialer,
+        &address,
         slot,
-        clock,
-        gate,
+        &mut clock,
+        &gate,
         half,
         &shared.bells,
     );

@@ -3,6 +3,7 @@
 
 mod bells;
 mod ends;
+mod facts;
 mod gate;
 mod half;
 mod joined;

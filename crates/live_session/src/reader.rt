@@ -14,6 +14,7 @@ ghost use Rattle.live_session.specs.Stretches.{spot, messages, Went, WentOne, Te
 
 use crate::bells::Bells;
 use crate::ends::ReaderEnd;
+use crate::facts::ReaderFacts;
 use crate::gate::Gate;
 use crate::side::{Side, down, message, up};
 use crate::turns::Turns;
@@ -165,18 +166,16 @@ pub(crate) fn end_by(stepped: Result<Verdict, AllocError>) -> Option<ReaderEnd>
 /// Hands on the frames that are whole, in turns.
 fn hand_each<R: Host + Net<Listener = TcpListener, Stream = TcpStream>, C: Clock, G: Gate>(
     rt: &R,
-    desk: &TurnDesk<DeskObject>,
+    facts: &ReaderFacts<'_, G>,
     seat: &mut TurnSeat<DeskObject>,
-    side: Side,
     clock: &mut C,
-    gate: &G,
     turns: &mut Turns<'_>,
     framer: &mut Framer,
     count: &mut u64,
 ) -> Option<ReaderEnd>
-    requires desk { IsSeatOf desk.now seat.old }
+    requires desk { IsSeatOf facts.now.desk.now seat.old }
     ensures desk { SameDesk seat.new seat.old }
-    ensures handed { (fed : List ℕ) (given : List (List ℕ)) → Stands framer.old fed given → (more : List (List ℕ)) × (calls : List DeskCall) × Went (spot seat.old (C.coming clock.old)) (messages side more) calls (spot seat.new (C.coming clock.new)) × AreFirst (given ++ more) (frames_of fed) × HandedTo result framer.new fed (given ++ more) calls seat.new.left }
+    ensures handed { (fed : List ℕ) (given : List (List ℕ)) → Stands framer.old fed given → (more : List (List ℕ)) × (calls : List DeskCall) × Went (spot seat.old (C.coming clock.old)) (messages facts.now.side more) calls (spot seat.new (C.coming clock.new)) × AreFirst (given ++ more) (frames_of fed) × HandedTo result framer.new fed (given ++ more) calls seat.new.left }
 {
     for _ in rt.forever() {
         let frame = match framer.next() {
@@ -185,9 +184,10 @@ fn hand_each<R: Host + Net<Listener = TcpListener, Stream = TcpStream>, C: Clock
             Ok(Next::Ended) => return None,
             Err(_) => return Some(ReaderEnd::Memory),
         };
-        gate.pass(rt, side, *count);
+        facts.gate.pass(rt, facts.side, *count);
         *count = count.wrapping_add(1);
-        let asked = ask_in_turn(rt, desk, seat, clock, turns, message(side, frame));
+        let event = message(facts.side, frame);
+        let asked = ask_in_turn(rt, facts.desk, seat, clock, turns, event);
         let Ok(stepped) = asked else {
             return Some(ReaderEnd::Spent);
         };
@@ -202,21 +202,18 @@ fn hand_each<R: Host + Net<Listener = TcpListener, Stream = TcpStream>, C: Clock
 /// frame, and else after many.
 fn hand_on<R: Host + Net<Listener = TcpListener, Stream = TcpStream>, C: Clock, G: Gate>(
     rt: &R,
-    desk: &TurnDesk<DeskObject>,
+    facts: &ReaderFacts<'_, G>,
     seat: &mut TurnSeat<DeskObject>,
-    side: Side,
     clock: &mut C,
-    gate: &G,
-    bells: &Bells,
     framer: &mut Framer,
     count: &mut u64,
 ) -> Option<ReaderEnd>
-    requires desk { IsSeatOf desk.now seat.old }
+    requires desk { IsSeatOf facts.now.desk.now seat.old }
     ensures desk { SameDesk seat.new seat.old }
-    ensures handed { (fed : List ℕ) (given : List (List ℕ)) → Stands framer.old fed given → (more : List (List ℕ)) × (calls : List DeskCall) × Went (spot seat.old (C.coming clock.old)) (messages side more) calls (spot seat.new (C.coming clock.new)) × AreFirst (given ++ more) (frames_of fed) × HandedTo result framer.new fed (given ++ more) calls seat.new.left }
+    ensures handed { (fed : List ℕ) (given : List (List ℕ)) → Stands framer.old fed given → (more : List (List ℕ)) × (calls : List DeskCall) × Went (spot seat.old (C.coming clock.old)) (messages facts.now.side more) calls (spot seat.new (C.coming clock.new)) × AreFirst (given ++ more) (frames_of fed) × HandedTo result framer.new fed (given ++ more) calls seat.new.left }
 {
-    let mut turns = Turns::new(bells, side, gate.may_wait());
-    let end = hand_each(rt, desk, seat, side, clock, gate, &mut turns, framer, count);
+    let mut turns = Turns::new(facts.bells, facts.side, facts.gate.may_wait());
+    let end = hand_each(rt, facts, seat, clock, &mut turns, framer, count);
     turns.finish(rt);
     end
 }
@@ -224,24 +221,20 @@ fn hand_on<R: Host + Net<Listener = TcpListener, Stream = TcpStream>, C: Clock, 
 /// Takes all that comes from the source, and hands on its frames.
 fn read_on<R: Host + Net<Listener = TcpListener, Stream = TcpStream>, S: Source, C: Clock, G: Gate>(
     rt: &R,
-    alloc: Global,
-    desk: &TurnDesk<DeskObject>,
+    facts: &ReaderFacts<'_, G>,
     seat: &mut TurnSeat<DeskObject>,
     source: &mut S,
-    side: Side,
     clock: &mut C,
-    gate: &G,
-    bells: &Bells,
     piece: &mut [u8],
 ) -> ReaderEnd
-    requires desk { IsSeatOf desk.now seat.old }
+    requires desk { IsSeatOf facts.now.desk.now seat.old }
     requires piece { 0 < length piece.old }
     ensures desk { SameDesk seat.new seat.old }
-    ensures reading { StretchOfMessages side (spot seat.old (C.coming clock.old)) (S.left source.old) result (S.left source.new) (spot seat.new (C.coming clock.new)) }
+    ensures reading { StretchOfMessages facts.now.side (spot seat.old (C.coming clock.old)) (S.left source.old) result (S.left source.new) (spot seat.new (C.coming clock.new)) }
     ensures fault { result ≡ ReadFault → Rose (S.faults source.old) (S.faults source.new) }
     ensures closed { result ≡ Closed → IsUsedUp (S.left source.new) }
 {
-    let mut framer = Framer::new(alloc);
+    let mut framer = Framer::new(facts.alloc);
     let mut count = 0;
     for _ in rt.forever() {
         let Ok(taken) = source.take(piece) else {
@@ -253,17 +246,7 @@ fn read_on<R: Host + Net<Listener = TcpListener, Stream = TcpStream>, S: Source,
         let Ok(()) = framer.feed(&piece[..taken]) else {
             return ReaderEnd::Memory;
         };
-        let end = hand_on(
-            rt,
-            desk,
-            seat,
-            side,
-            clock,
-            gate,
-            bells,
-            &mut framer,
-            &mut count,
-        );
+        let end = hand_on(rt, facts, seat, clock, &mut framer, &mut count);
         if let Some(end) = end {
             return end;
         }
@@ -280,56 +263,46 @@ fn read_all<
     G: Gate,
 >(
     rt: &R,
-    alloc: Global,
-    desk: &TurnDesk<DeskObject>,
+    facts: &ReaderFacts<'_, G>,
     seat: &mut TurnSeat<DeskObject>,
     source: &mut S,
-    side: Side,
     clock: &mut C,
-    gate: &G,
-    bells: &Bells,
 ) -> ReaderEnd
-    requires desk { IsSeatOf desk.now seat.old }
+    requires desk { IsSeatOf facts.now.desk.now seat.old }
     ensures desk { SameDesk seat.new seat.old }
-    ensures reading { StretchOfMessages side (spot seat.old (C.coming clock.old)) (S.left source.old) result (S.left source.new) (spot seat.new (C.coming clock.new)) }
+    ensures reading { StretchOfMessages facts.now.side (spot seat.old (C.coming clock.old)) (S.left source.old) result (S.left source.new) (spot seat.new (C.coming clock.new)) }
     ensures fault { result ≡ ReadFault → Rose (S.faults source.old) (S.faults source.new) }
     ensures closed { result ≡ Closed → IsUsedUp (S.left source.new) }
 {
-    let Ok(mut piece) = vec![in alloc; 0; PIECE] else {
+    let Ok(mut piece) = vec![in facts.alloc; 0; PIECE] else {
         return ReaderEnd::Memory;
     };
-    read_on(
-        rt, alloc, desk, seat, source, side, clock, gate, bells, &mut piece,
-    )
+    read_on(rt, facts, seat, source, clock, &mut piece)
 }
 
 /// The up of a connection, and what its source gives.
 fn begin<R: Host + Net<Listener = TcpListener, Stream = TcpStream>, S: Source, C: Clock, G: Gate>(
     rt: &R,
-    alloc: Global,
-    desk: &TurnDesk<DeskObject>,
+    facts: &ReaderFacts<'_, G>,
     seat: &mut TurnSeat<DeskObject>,
     source: &mut S,
-    side: Side,
     clock: &mut C,
-    gate: &G,
-    bells: &Bells,
 ) -> ReaderEnd
-    requires desk { IsSeatOf desk.now seat.old }
+    requires desk { IsSeatOf facts.now.desk.now seat.old }
     ensures desk { SameDesk seat.new seat.old }
-    ensures begun { StretchBeforeDown side (spot seat.old (C.coming clock.old)) (S.left source.old) result (S.left source.new) (spot seat.new (C.coming clock.new)) }
+    ensures begun { StretchBeforeDown facts.now.side (spot seat.old (C.coming clock.old)) (S.left source.old) result (S.left source.new) (spot seat.new (C.coming clock.new)) }
     ensures fault { result ≡ ReadFault → Rose (S.faults source.old) (S.faults source.new) }
     ensures closed { result ≡ Closed → IsUsedUp (S.left source.new) }
 {
-    let stepped = ask_alone(rt, desk, seat, clock, bells, up(side));
-    bells.came(rt, side);
+    let stepped = ask_alone(rt, facts.desk, seat, clock, facts.bells, up(facts.side));
+    facts.bells.came(rt, facts.side);
     let Ok(stepped) = stepped else {
         return ReaderEnd::Spent;
     };
     if let Some(end) = end_by(stepped) {
         return end;
     }
-    read_all(rt, alloc, desk, seat, source, side, clock, gate, bells)
+    read_all(rt, facts, seat, source, clock)
 }
 
 /// Whether the desk is told that a connection ended so.
@@ -343,23 +316,22 @@ fn closes(end: ReaderEnd) -> bool
 }
 
 /// The down of a connection that ended so, where there is to be one.
-pub(crate) fn finish<R: Wait, C: Clock>(
+pub(crate) fn finish<R: Wait, C: Clock, G: Gate>(
     rt: &R,
-    desk: &TurnDesk<DeskObject>,
+    facts: &ReaderFacts<'_, G>,
     seat: &mut TurnSeat<DeskObject>,
-    side: Side,
     clock: &mut C,
-    bells: &Bells,
     end: ReaderEnd,
 ) -> ReaderEnd
-    requires desk { IsSeatOf desk.now seat.old }
+    requires desk { IsSeatOf facts.now.desk.now seat.old }
     ensures desk { SameDesk seat.new seat.old }
-    ensures finished { Finishes side end (spot seat.old (C.coming clock.old)) result (spot seat.new (C.coming clock.new)) }
+    ensures finished { Finishes facts.now.side end (spot seat.old (C.coming clock.old)) result (spot seat.new (C.coming clock.new)) }
 {
     if !closes(end) {
         return end;
     }
-    let Ok(_) = ask_alone(rt, desk, seat, clock, bells, down(side)) else {
+    let event = down(facts.side);
+    let Ok(_) = ask_alone(rt, facts.desk, seat, clock, facts.bells, event) else {
         return ReaderEnd::Spent;
     };
     end
@@ -391,8 +363,15 @@ pub fn run_reader<
     ensures fault { result ≡ ReadFault → Rose (S.faults source.old) (S.faults source.new) }
     ensures closed { result ≡ Closed → IsUsedUp (S.left source.new) }
 {
-    let end = begin(rt, alloc, desk, seat, source, side, clock, gate, bells);
-    let end = finish(rt, desk, seat, side, clock, bells, end);
+    let facts = ReaderFacts {
+        alloc,
+        desk,
+        bells,
+        gate,
+        side,
+    };
+    let end = begin(rt, &facts, seat, source, clock);
+    let end = finish(rt, &facts, seat, clock, end);
     bells.end(side);
     bells.ring_all(rt);
     end

@@ -11,6 +11,7 @@ ghost use Rattle.live_session.specs.Links.{AreLinks, RoseBy, Opening, OpeningSpe
 
 use crate::bells::Bells;
 use crate::ends::{ReaderEnd, SliceEnd};
+use crate::facts::{ControllerFacts, ReaderFacts};
 use crate::gate::Gate;
 use crate::half::Half;
 use crate::reader::{ask_alone, end_by, finish, run_reader};
@@ -87,59 +88,53 @@ fn dial_once<
     G: Gate,
 >(
     rt: &R,
-    alloc: Global,
-    desk: &TurnDesk<DeskObject>,
+    facts: &ReaderFacts<'_, G>,
+    controller: &ControllerFacts<'_, D::Out>,
     seat: &mut TurnSeat<DeskObject>,
     dialer: &mut D,
-    to: &str,
     attempt: u32,
-    slot: u8,
     clock: &mut C,
-    gate: &G,
-    half: &Half<D::Out>,
-    bells: &Bells,
 ) -> Option<ReaderEnd>
-    requires desk { IsSeatOf desk.now seat.old }
+    requires desk { IsSeatOf facts.now.desk.now seat.old }
     ensures desk { SameDesk seat.new seat.old }
-    ensures link { IfSome result (λ end. LinkStretch (sides.Slice slot) (spot seat.old (C.coming clock.old)) end (spot seat.new (C.coming clock.new))) }
+    ensures link { IfSome result (λ end. LinkStretch facts.now.side (spot seat.old (C.coming clock.old)) end (spot seat.new (C.coming clock.new))) }
     ensures told { IfSome result (λ end. D.links dialer.new ≡ count_more (D.links dialer.old) 1) }
     ensures same { IfNone result (spot seat.new (C.coming clock.new) ≡ spot seat.old (C.coming clock.old)) }
     ensures untold { IfNone result (D.links dialer.new ≡ D.links dialer.old) }
-    ensures cause { IfNone result (Rose (D.faults dialer.old to.now) (D.faults dialer.new to.now)) }
-    ensures count { D.faults dialer.old to.now ≤ D.faults dialer.new to.now }
+    ensures cause { IfNone result (Rose (D.faults dialer.old controller.now.address.now) (D.faults dialer.new controller.now.address.now)) }
+    ensures count { D.faults dialer.old controller.now.address.now ≤ D.faults dialer.new controller.now.address.now }
 {
-    let Ok((mut source, out)) = dialer.dial(rt, to, attempt) else {
+    let Ok((mut source, out)) = dialer.dial(rt, controller.address, attempt) else {
         return None;
     };
-    half.put(rt, out);
+    controller.half.put(rt, out);
     let end = run_reader(
         rt,
-        alloc,
-        desk,
+        facts.alloc,
+        facts.desk,
         seat,
         &mut source,
-        Side::Slice(slot),
+        facts.side,
         clock,
-        gate,
-        bells,
+        facts.gate,
+        facts.bells,
     );
     Some(end)
 }
 
 /// The up of a connection that isn't there, whose source gives nothing. No writer begins by it.
-fn begin_without_link<R: Wait, C: Clock>(
+fn begin_without_link<R: Wait, C: Clock, G: Gate>(
     rt: &R,
-    desk: &TurnDesk<DeskObject>,
+    facts: &ReaderFacts<'_, G>,
     seat: &mut TurnSeat<DeskObject>,
-    side: Side,
     clock: &mut C,
-    bells: &Bells,
 ) -> ReaderEnd
-    requires desk { IsSeatOf desk.now seat.old }
+    requires desk { IsSeatOf facts.now.desk.now seat.old }
     ensures desk { SameDesk seat.new seat.old }
-    ensures begun { StretchBeforeDown side (spot seat.old (C.coming clock.old)) (Some []) result (Some []) (spot seat.new (C.coming clock.new)) }
+    ensures begun { StretchBeforeDown facts.now.side (spot seat.old (C.coming clock.old)) (Some []) result (Some []) (spot seat.new (C.coming clock.new)) }
 {
-    let Ok(stepped) = ask_alone(rt, desk, seat, clock, bells, up(side)) else {
+    let event = up(facts.side);
+    let Ok(stepped) = ask_alone(rt, facts.desk, seat, clock, facts.bells, event) else {
         return ReaderEnd::Spent;
     };
     if let Some(end) = end_by(stepped) {
@@ -149,21 +144,18 @@ fn begin_without_link<R: Wait, C: Clock>(
 }
 
 /// The stretch without a link, by which the desk says whether it has ended.
-fn ask_without_link<R: Wait, C: Clock>(
+fn ask_without_link<R: Wait, C: Clock, G: Gate>(
     rt: &R,
-    desk: &TurnDesk<DeskObject>,
+    facts: &ReaderFacts<'_, G>,
     seat: &mut TurnSeat<DeskObject>,
-    slot: u8,
     clock: &mut C,
-    bells: &Bells,
 ) -> ReaderEnd
-    requires desk { IsSeatOf desk.now seat.old }
+    requires desk { IsSeatOf facts.now.desk.now seat.old }
     ensures desk { SameDesk seat.new seat.old }
-    ensures unlinked { Unlinked (sides.Slice slot) (spot seat.old (C.coming clock.old)) result (spot seat.new (C.coming clock.new)) }
+    ensures unlinked { Unlinked facts.now.side (spot seat.old (C.coming clock.old)) result (spot seat.new (C.coming clock.new)) }
 {
-    let side = Side::Slice(slot);
-    let end = begin_without_link(rt, desk, seat, side, clock, bells);
-    finish(rt, desk, seat, side, clock, bells, end)
+    let end = begin_without_link(rt, facts, seat, clock);
+    finish(rt, facts, seat, clock, end)
 }
 
 /// How a slice's reader ends by the end of a link, if it does.
@@ -180,36 +172,29 @@ fn over_by(end: ReaderEnd) -> Option<SliceEnd>
 /// Dials again and again.
 fn dial_on<R: Host + Net<Listener = TcpListener, Stream = TcpStream>, D: Dialer, C: Clock, G: Gate>(
     rt: &R,
-    alloc: Global,
-    desk: &TurnDesk<DeskObject>,
+    facts: &ReaderFacts<'_, G>,
+    controller: &ControllerFacts<'_, D::Out>,
     seat: &mut TurnSeat<DeskObject>,
     dialer: &mut D,
-    to: &str,
-    slot: u8,
     clock: &mut C,
-    gate: &G,
-    half: &Half<D::Out>,
-    bells: &Bells,
 ) -> SliceEnd
-    requires desk { IsSeatOf desk.now seat.old }
+    requires desk { IsSeatOf facts.now.desk.now seat.old }
     ensures desk { SameDesk seat.new seat.old }
-    ensures links { (ways : List Way) × Linked (sides.Slice slot) ways (spot seat.old (C.coming clock.old)) (spot seat.new (C.coming clock.new)) × LinksEnd result ways × AreLinks (D.links dialer.old) ways (D.links dialer.new) }
-    ensures gave_up { result ≡ GaveUp → RoseBy 1000 (D.faults dialer.old to.now) (D.faults dialer.new to.now) }
+    ensures links { (ways : List Way) × Linked facts.now.side ways (spot seat.old (C.coming clock.old)) (spot seat.new (C.coming clock.new)) × LinksEnd result ways × AreLinks (D.links dialer.old) ways (D.links dialer.new) }
+    ensures gave_up { result ≡ GaveUp → RoseBy 1000 (D.faults dialer.old controller.now.address.now) (D.faults dialer.new controller.now.address.now) }
 {
     let mut failed = 0;
     let mut asked = false;
     for _ in rt.forever() {
-        if !asked && bells.has_ended() {
-            let end = ask_without_link(rt, desk, seat, slot, clock, bells);
+        if !asked && facts.bells.has_ended() {
+            let end = ask_without_link(rt, facts, seat, clock);
             if let Some(over) = over_by(end) {
                 return over;
             }
             asked = true;
             continue;
         }
-        let Some(end) = dial_once(
-            rt, alloc, desk, seat, dialer, to, failed, slot, clock, gate, half, bells,
-        ) else {
+        let Some(end) = dial_once(rt, facts, controller, seat, dialer, failed, clock) else {
             failed += 1;
             if failed >= ATTEMPTS {
                 return SliceEnd::GaveUp;
@@ -219,7 +204,7 @@ fn dial_on<R: Host + Net<Listener = TcpListener, Stream = TcpStream>, D: Dialer,
         if let Some(over) = over_by(end) {
             return over;
         }
-        half.wait_for_end(rt);
+        controller.half.wait_for_end(rt);
         failed = 0;
     }
     unreachable!()
@@ -256,9 +241,15 @@ pub fn run_slice<
         half.close(rt);
         return SliceEnd::Spent;
     };
-    let end = dial_on(
-        rt, alloc, desk, seat, dialer, to, slot, clock, gate, half, bells,
-    );
+    let facts = ReaderFacts {
+        alloc,
+        desk,
+        bells,
+        gate,
+        side: Side::Slice(slot),
+    };
+    let controller = ControllerFacts { address: to, half };
+    let end = dial_on(rt, &facts, &controller, seat, dialer, clock);
     half.close(rt);
     end
 }

@@ -10,7 +10,7 @@ loop-init g c = record {
   can = tt;
   ends = tt;
   desk = refl;
-  handed = λ fed given stands. hands_none c.args.side (spot c.args.seat.now (g.C.Clock.coming c.args.clock.now)) c.args.framer.now fed given stands;
+  handed = λ fed given stands. hands_none c.args.facts.now.side (spot c.args.seat.now (g.C.Clock.coming c.args.clock.now)) c.args.framer.now fed given stands;
 }
 
 pub returns-in-Ok-NeedMore : goal.returns-in-Ok-NeedMore
@@ -21,7 +21,7 @@ returns-in-Ok-NeedMore g c =
       desk = c.loop.invariant.desk;
       handed = λ fed given stands.
           let h = c.loop.invariant.handed fed given stands in
-          hands_all c.args.side a b c.loop.framer c.next-in-loop.new.self fed given h (sym c.in-Ok-NeedMore.field-0-is ∙ c.in-Ok-NeedMore.ensures.gives.answer fed (given ++ h.0) h.2) (subst (λ n. Stands c.next-in-loop.new.self fed ((given ++ h.0) ++ frame_in n)) c.in-Ok-NeedMore.field-0-is (c.in-Ok-NeedMore.ensures.gives.stands fed (given ++ h.0) h.2));
+          hands_all c.args.facts.now.side a b c.loop.framer c.next-in-loop.new.self fed given h (sym c.in-Ok-NeedMore.field-0-is ∙ c.in-Ok-NeedMore.ensures.gives.answer fed (given ++ h.0) h.2) (subst (λ n. Stands c.next-in-loop.new.self fed ((given ++ h.0) ++ frame_in n)) c.in-Ok-NeedMore.field-0-is (c.in-Ok-NeedMore.ensures.gives.stands fed (given ++ h.0) h.2));
     }
 
 pub returns-in-Ok-Ended : goal.returns-in-Ok-Ended
@@ -32,21 +32,21 @@ returns-in-Ok-Ended g c =
       desk = c.loop.invariant.desk;
       handed = λ fed given stands.
           let h = c.loop.invariant.handed fed given stands in
-          hands_last c.args.side a b c.loop.framer c.next-in-loop.new.self fed given h (sym c.in-Ok-Ended.field-0-is ∙ c.in-Ok-Ended.ensures.gives.answer fed (given ++ h.0) h.2) (subst (λ n. Stands c.next-in-loop.new.self fed ((given ++ h.0) ++ frame_in n)) c.in-Ok-Ended.field-0-is (c.in-Ok-Ended.ensures.gives.stands fed (given ++ h.0) h.2));
+          hands_last c.args.facts.now.side a b c.loop.framer c.next-in-loop.new.self fed given h (sym c.in-Ok-Ended.field-0-is ∙ c.in-Ok-Ended.ensures.gives.answer fed (given ++ h.0) h.2) (subst (λ n. Stands c.next-in-loop.new.self fed ((given ++ h.0) ++ frame_in n)) c.in-Ok-Ended.field-0-is (c.in-Ok-Ended.ensures.gives.stands fed (given ++ h.0) h.2));
     }
 
 pub returns-in-Err-clause-handed : goal.returns-in-Err-clause-handed
 returns-in-Err-clause-handed g c = λ fed given stands.
     let a = spot c.args.seat.now (g.C.Clock.coming c.args.clock.now) in
     let b = spot c.loop.seat (g.C.Clock.coming c.loop.clock) in
-    hands_memory c.args.side a b c.loop.framer c.next-in-loop.new.self fed given (c.loop.invariant.handed fed given stands)
+    hands_memory c.args.facts.now.side a b c.loop.framer c.next-in-loop.new.self fed given (c.loop.invariant.handed fed given stands)
 
 pub returns-in_default-clause-handed : goal.returns-in_default-clause-handed
 returns-in_default-clause-handed g c = λ fed given stands.
     let a = spot c.args.seat.now (g.C.Clock.coming c.args.clock.now) in
     let b = spot c.loop.seat (g.C.Clock.coming c.loop.clock) in
     let d = spot c.ask_in_turn-asked.new.seat (g.C.Clock.coming c.ask_in_turn-asked.new.clock) in
-    hands_spent c.args.side a b d c.loop.framer c.next-in-loop.new.self fed given (c.loop.invariant.handed fed given stands) c.in_default.ensures.same c.in_default.ensures.spent
+    hands_spent c.args.facts.now.side a b d c.loop.framer c.next-in-loop.new.self fed given (c.loop.invariant.handed fed given stands) c.in_default.ensures.same c.in_default.ensures.spent
 
 pub returns-in-Some-end_by-clause-handed : goal.returns-in-Some-end_by-clause-handed
 returns-in-Some-end_by-clause-handed g c = λ fed given stands.
@@ -54,7 +54,7 @@ returns-in-Some-end_by-clause-handed g c = λ fed given stands.
     let b = spot c.loop.seat (g.C.Clock.coming c.loop.clock) in
     let d = spot c.ask_in_turn-asked.new.seat (g.C.Clock.coming c.ask_in_turn-asked.new.clock) in
     let h = c.loop.invariant.handed fed given stands in
-    hands_end c.args.side a b d c.loop.framer c.next-in-loop.new.self fed given c.in-Ok-Frame.frame (Stepped c.in-Ok.stepped) c.in-Some-end_by.end h (subst (λ n. Stands c.next-in-loop.new.self fed ((given ++ h.0) ++ frame_in n)) c.in-Ok-Frame.field-0-is (c.in-Ok-Frame.ensures.gives.stands fed (given ++ h.0) h.2)) (rw (← c.message.ensures) c.in-Ok.ensures.went) c.in-Some-end_by.ensures
+    hands_end c.args.facts.now.side a b d c.loop.framer c.next-in-loop.new.self fed given c.in-Ok-Frame.frame (Stepped c.in-Ok.stepped) c.in-Some-end_by.end h (subst (λ n. Stands c.next-in-loop.new.self fed ((given ++ h.0) ++ frame_in n)) c.in-Ok-Frame.field-0-is (c.in-Ok-Frame.ensures.gives.stands fed (given ++ h.0) h.2)) (rw (← c.message-event.ensures) c.in-Ok.ensures.went) c.in-Some-end_by.ensures
 
 pub loop-preserved : goal.loop-preserved
 loop-preserved g c =
@@ -67,5 +67,5 @@ loop-preserved g c =
       desk = c.in-Ok.ensures.desk ∙ c.loop.invariant.desk;
       handed = λ fed given stands.
           let h = c.loop.invariant.handed fed given stands in
-          hands_more c.args.side a b d c.loop.framer c.next-in-loop.new.self fed given c.in-Ok-Frame.frame (Stepped c.in-Ok.stepped) h (subst (λ n. Stands c.next-in-loop.new.self fed ((given ++ h.0) ++ frame_in n)) c.in-Ok-Frame.field-0-is (c.in-Ok-Frame.ensures.gives.stands fed (given ++ h.0) h.2)) (rw (← c.message.ensures) c.in-Ok.ensures.went) c.in_default-end_by.ensures;
+          hands_more c.args.facts.now.side a b d c.loop.framer c.next-in-loop.new.self fed given c.in-Ok-Frame.frame (Stepped c.in-Ok.stepped) h (subst (λ n. Stands c.next-in-loop.new.self fed ((given ++ h.0) ++ frame_in n)) c.in-Ok-Frame.field-0-is (c.in-Ok-Frame.ensures.gives.stands fed (given ++ h.0) h.2)) (rw (← c.message-event.ensures) c.in-Ok.ensures.went) c.in_default-end_by.ensures;
     }

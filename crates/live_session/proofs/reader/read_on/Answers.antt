@@ -11,7 +11,7 @@ loop-init g c = record {
   ends = tt;
   desk = refl;
   calm = refl;
-  read = takes_none c.args.side (spot c.args.seat.now (g.C.Clock.coming c.args.clock.now)) (g.S.Source.left c.args.source.now) c.new-framer.result c.new-framer.ensures;
+  read = takes_none c.args.facts.now.side (spot c.args.seat.now (g.C.Clock.coming c.args.clock.now)) (g.S.Source.left c.args.source.now) c.new-framer.result c.new-framer.ensures;
 }
 
 pub returns-in_default-clause-fault : goal.returns-in_default-clause-fault
@@ -21,7 +21,7 @@ pub returns-in_default-feed-clause-reading : goal.returns-in_default-feed-clause
 returns-in_default-feed-clause-reading g c =
     let a = spot c.args.seat.now (g.C.Clock.coming c.args.clock.now) in
     let b = spot c.loop.seat (g.C.Clock.coming c.loop.clock) in
-    takes_memory c.args.side a b (g.S.Source.left c.args.source.now) (g.S.Source.left c.loop.source) (g.S.Source.left c.take.new.self) c.loop.framer (take c.in-Ok.taken c.take.new.into) c.loop.invariant.read c.in-Ok.ensures.moved
+    takes_memory c.args.facts.now.side a b (g.S.Source.left c.args.source.now) (g.S.Source.left c.loop.source) (g.S.Source.left c.take.new.self) c.loop.framer (take c.in-Ok.taken c.take.new.into) c.loop.invariant.read c.in-Ok.ensures.moved
 
 pub returns-in-Some-end-clause-reading : goal.returns-in-Some-end-clause-reading
 returns-in-Some-end-clause-reading g c =
@@ -30,7 +30,7 @@ returns-in-Some-end-clause-reading g c =
     let d = spot c.hand_on-end.new.seat (g.C.Clock.coming c.hand_on-end.new.clock) in
     let h = c.loop.invariant.read in
     let piece = take c.in-Ok.taken c.take.new.into in
-    takes_end c.args.side a b d (g.S.Source.left c.args.source.now) (g.S.Source.left c.loop.source) (g.S.Source.left c.take.new.self) c.loop.framer c.hand_on-end.new.framer piece c.in-Some-end.end h c.in-Ok.ensures.moved (c.in-Some-end.ensures.handed (h.0 ++ piece) (frames_of h.0) (c.in-Ok-feed.ensures.stands h.0 (frames_of h.0) h.2))
+    takes_end c.args.facts.now.side a b d (g.S.Source.left c.args.source.now) (g.S.Source.left c.loop.source) (g.S.Source.left c.take.new.self) c.loop.framer c.hand_on-end.new.framer piece c.in-Some-end.end h c.in-Ok.ensures.moved (c.in-Some-end.ensures.handed (h.0 ++ piece) (frames_of h.0) (c.in-Ok-feed.ensures.stands h.0 (frames_of h.0) h.2))
 
 pub returns-in-Some-end-clause-fault : goal.returns-in-Some-end-clause-fault
 returns-in-Some-end-clause-fault g c = λ e.
@@ -38,7 +38,7 @@ returns-in-Some-end-clause-fault g c = λ e.
     let d = spot c.hand_on-end.new.seat (g.C.Clock.coming c.hand_on-end.new.clock) in
     let h = c.loop.invariant.read in
     let piece = take c.in-Ok.taken c.take.new.into in
-    absurd (not_at_fault c.args.side b d c.hand_on-end.new.framer (h.0 ++ piece) (frames_of h.0) c.in-Some-end.end (c.in-Some-end.ensures.handed (h.0 ++ piece) (frames_of h.0) (c.in-Ok-feed.ensures.stands h.0 (frames_of h.0) h.2)) e)
+    absurd (not_at_fault c.args.facts.now.side b d c.hand_on-end.new.framer (h.0 ++ piece) (frames_of h.0) c.in-Some-end.end (c.in-Some-end.ensures.handed (h.0 ++ piece) (frames_of h.0) (c.in-Ok-feed.ensures.stands h.0 (frames_of h.0) h.2)) e)
 
 pub returns-in-Some-end-clause-closed : goal.returns-in-Some-end-clause-closed
 returns-in-Some-end-clause-closed g c = λ e.
@@ -46,7 +46,7 @@ returns-in-Some-end-clause-closed g c = λ e.
     let d = spot c.hand_on-end.new.seat (g.C.Clock.coming c.hand_on-end.new.clock) in
     let h = c.loop.invariant.read in
     let piece = take c.in-Ok.taken c.take.new.into in
-    absurd (not_at_end c.args.side b d c.hand_on-end.new.framer (h.0 ++ piece) (frames_of h.0) c.in-Some-end.end (c.in-Some-end.ensures.handed (h.0 ++ piece) (frames_of h.0) (c.in-Ok-feed.ensures.stands h.0 (frames_of h.0) h.2)) e)
+    absurd (not_at_end c.args.facts.now.side b d c.hand_on-end.new.framer (h.0 ++ piece) (frames_of h.0) c.in-Some-end.end (c.in-Some-end.ensures.handed (h.0 ++ piece) (frames_of h.0) (c.in-Ok-feed.ensures.stands h.0 (frames_of h.0) h.2)) e)
 
 pub loop-preserved : goal.loop-preserved
 loop-preserved g c =
@@ -60,5 +60,5 @@ loop-preserved g c =
       ends = tt;
       desk = c.in_default-end.ensures.desk ∙ c.loop.invariant.desk;
       calm = c.in-Ok.ensures.calm ∙ c.loop.invariant.calm;
-      read = takes_more c.args.side a b d (g.S.Source.left c.args.source.now) (g.S.Source.left c.loop.source) (g.S.Source.left c.take.new.self) c.loop.framer c.hand_on-end.new.framer piece h c.in-Ok.ensures.moved (c.in_default-end.ensures.handed (h.0 ++ piece) (frames_of h.0) (c.in-Ok-feed.ensures.stands h.0 (frames_of h.0) h.2));
+      read = takes_more c.args.facts.now.side a b d (g.S.Source.left c.args.source.now) (g.S.Source.left c.loop.source) (g.S.Source.left c.take.new.self) c.loop.framer c.hand_on-end.new.framer piece h c.in-Ok.ensures.moved (c.in_default-end.ensures.handed (h.0 ++ piece) (frames_of h.0) (c.in-Ok-feed.ensures.stands h.0 (frames_of h.0) h.2));
     }

@@ -10,5 +10,5 @@ invariant-loop g l = record {
   ends : (goal.iterator-loop g).is_finite l.iterator';
   desk : l.seat.seat.table_id ≡ l.fn.seat.seat.table_id;
   calm : g.S.Source.faults l.source ≡ g.S.Source.faults l.fn.source;
-  read : (bytes : List ℕ) × (calls : List DeskCall) × Stands l.framer bytes (frames_of bytes) × Moved (g.S.Source.left l.fn.source) bytes (g.S.Source.left l.source) × Went (spot l.fn.seat (g.C.Clock.coming l.fn.clock)) (messages l.side (frames_of bytes)) calls (spot l.seat (g.C.Clock.coming l.clock)) × WentOn calls;
+  read : (bytes : List ℕ) × (calls : List DeskCall) × Stands l.framer bytes (frames_of bytes) × Moved (g.S.Source.left l.fn.source) bytes (g.S.Source.left l.source) × Went (spot l.fn.seat (g.C.Clock.coming l.fn.clock)) (messages l.facts.side (frames_of bytes)) calls (spot l.seat (g.C.Clock.coming l.clock)) × WentOn calls;
 }

@@ -49,6 +49,6 @@ loop-preserved g c =
       finite = tt;
       desk = c.in-Some-dial_once.ensures.desk ∙ c.loop.invariant.desk;
       few = omega arith;
-      rose = rose_none c.loop.failed (g.D.Dialer.faults c.args.dialer.now c.args.to.now) (g.D.Dialer.faults c.loop.dialer c.args.to.now) (g.D.Dialer.faults c.dial_once.new.dialer c.args.to.now) c.loop.invariant.rose c.in-Some-dial_once.ensures.count;
+      rose = rose_none c.loop.failed (g.D.Dialer.faults c.args.dialer.now c.args.controller.now.address.now) (g.D.Dialer.faults c.loop.dialer c.args.controller.now.address.now) (g.D.Dialer.faults c.dial_once.new.dialer c.args.controller.now.address.now) c.loop.invariant.rose c.in-Some-dial_once.ensures.count;
       links = (OfLink c.in-Some-dial_once.end ∷ h.0, (spot c.loop.seat (g.C.Clock.coming c.loop.clock), h.1, c.in-Some-dial_once.ensures.link), link_more (g.D.Dialer.links c.args.dialer.now) (g.D.Dialer.links c.loop.dialer) (g.D.Dialer.links c.dial_once.new.dialer) c.loop.asked c.in-Some-dial_once.end h.0 h.2 c.in-Some-dial_once.ensures.told);
     }
