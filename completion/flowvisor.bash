@@ -23,8 +23,8 @@ _flowvisor() {
     COMPREPLY=()
     _flowvisor_redirected && return
     case $COMP_CWORD:${COMP_WORDS[1]} in
-        1:*) mapfile -t COMPREPLY < <(compgen -W 'check replay gen serve --help -h --version' -- "$word") ;;
-        2:check | 2:replay | 2:serve) _flowvisor_files "$word" .toml ;;
+        1:*) mapfile -t COMPREPLY < <(compgen -W 'check replay gen serve flatten --help -h --version' -- "$word") ;;
+        2:check | 2:replay | 2:serve | 2:flatten | 4:flatten) _flowvisor_files "$word" .toml ;;
         3:replay) _flowvisor_files "$word" .rec ;;
     esac
 }
@@ -32,8 +32,8 @@ _flowvisor() {
 # The options of a subcommand of flowvisor-tool.
 _flowvisor_tool_options() {
     case $1 in
-        lint) echo '--help -h --strict --resolve' ;;
-        explain) echo '--help -h --switch' ;;
+        lint) echo '--help -h --strict --resolve --under' ;;
+        explain) echo '--help -h --switch --under' ;;
         try) echo '--help -h --slice --switch --ports --command --packet-out' ;;
         show) echo '--help -h --switch-port --policy --slice' ;;
         to-pcap) echo '--help -h --recording' ;;
@@ -55,6 +55,7 @@ _flowvisor_tool() {
     case $before:$command:$word in
         --policy:*) _flowvisor_files "$word" .toml ;;
         --recording:*) _flowvisor_files "$word" .rec ;;
+        --under:*) _flowvisor_files "$word" .toml ;;
         --command:*) mapfile -t COMPREPLY < <(compgen -W 'add modify modify_strict delete delete_strict' -- "$word") ;;
         --switch:* | --switch-port:* | --slice:* | --attach:* | --direct:* | --drop:* | --ports:* | --http:*) ;;
         *:-*) mapfile -t COMPREPLY < <(compgen -W "$(_flowvisor_tool_options "$command")" -- "$word") ;;

@@ -3,11 +3,11 @@ use Rattle.std.proofs.Common.{◌≡◌, ℕ, ◌==◌, ◌⊎◌, ◌&&◌, if�
 use Rattle.std.proofs.lemmas.Bool.{cases_Bool}
 use Rattle.fv_base.specs.Told.{appended, IsBeginning, Rose}
 use Rattle.fv_base.proofs.Appending.{appended_none}
-use Rattle.fv_base.specs.Words.{FormBytes, OfCheck, OfReplay, OfGen, OfServe, OfVirtual, OfChange, OfFlatten, OfAudit, OfTrace, form_of}
+use Rattle.fv_base.specs.Words.{FormBytes, OfCheck, OfReplay, OfGen, OfFlatten, form_of}
 use Rattle.fv_cli.specs.declared.ending.Ending.{Ending}
-use Rattle.fv_cli.specs.declared.ending.Ending.TheVariants.{Done, Usage, ReadFault, WriteFault, NoMemory, NoMemoryToRun, TooLarge, PolicyRefused, RecordingRefused}
-use Rattle.fv_cli.specs.Endings.{ending_status, ending_line, IsPut, Outside, EndedWith, Causes, IsCheckCause, IsReplayCause, IsGenEnding}
-use Rattle.flowvisor.specs.Asked.{Suits, EndedSo, is_of_check, is_of_gen}
+use Rattle.fv_cli.specs.declared.ending.Ending.TheVariants.{Done, Usage, ReadFault, WriteFault, NoMemory, NoMemoryToRun, TooLarge, PolicyRefused, NoSlice, NestRefused}
+use Rattle.fv_cli.specs.Endings.{ending_status, ending_line, IsPut, Outside, EndedWith, Causes, IsPolicyCause, IsWriteEnding, IsCheckCause, IsReplayCause, IsFlattenCause, IsGenEnding}
+use Rattle.flowvisor.specs.Asked.{Suits, EndedSo, is_of_check, is_of_gen, is_of_flatten}
 
 -- ---- lines
 
@@ -41,30 +41,41 @@ behind_nothing line before between after count count_between count_after (inr (p
 -- ---- what suits the words
 
 pub memory_suits : (form : Option FormBytes) → Suits None form NoMemory
-memory_suits None = inr refl
 memory_suits (Some (OfCheck policy)) = refl
 memory_suits (Some (OfReplay policy recording)) = λ e. cc
 memory_suits (Some (OfGen seed count)) = refl
-memory_suits (Some (OfServe policy listen count)) = inr refl
-memory_suits (Some (OfVirtual policy recording)) = inr refl
-memory_suits (Some (OfChange old new recording)) = inr refl
-memory_suits (Some (OfFlatten outer name inner)) = inr refl
-memory_suits (Some (OfAudit policy trace)) = inr refl
-memory_suits (Some (OfTrace policy recording)) = inr refl
+memory_suits (Some (OfFlatten outer name inner)) = refl
+memory_suits other = inr refl
+
+-- an ending that writing a text can have
+abbrev IsOfWriting : Ending → Type 0
+IsOfWriting ending = (ending ≡ Done) ⊎ (ending ≡ WriteFault)
+
+writes_so : (text : List ℕ) (before after : Option (List ℕ)) (count_before count_after : ℕ) (ending : Ending) → IsWriteEnding text before after count_before count_after ending → IsOfWriting ending
+writes_so text before after count_before count_after Done cause = inl refl
+writes_so text before after count_before count_after WriteFault cause = inr refl
+writes_so text before after count_before count_after other cause = absurd cause
+
+-- an ending of a policy that isn't had
+loads_so : (file : Option (List ℕ)) (before after : ℕ) (ending : Ending) → IsPolicyCause file before after ending → is_of_check ending ≡ true
+loads_so file before after ReadFault cause = refl
+loads_so file before after TooLarge cause = refl
+loads_so file before after NoMemory cause = refl
+loads_so file before after (PolicyRefused fault) cause = refl
+loads_so file before after other cause = absurd cause
+
+divides_too : (ending : Ending) → is_of_check ending ≡ true → is_of_flatten ending ≡ true
+divides_too NoSlice is = refl
+divides_too (NestRefused fault) is = refl
+divides_too other is = is
+
+writing_suits : (ending : Ending) → IsOfWriting ending → is_of_check ending ≡ true
+writing_suits ending (inl is) = ap is_of_check is
+writing_suits ending (inr is) = ap is_of_check is
 
 check_suits : (w : Outside) (policy : List ℕ) (ending : Ending) → IsCheckCause w policy ending → is_of_check ending ≡ true
-check_suits w policy Done cause = refl
-check_suits w policy Usage (inl cause) = absurd cause
-check_suits w policy Usage (inr (p, has, cause)) = absurd cause
-check_suits w policy ReadFault cause = refl
-check_suits w policy WriteFault cause = refl
-check_suits w policy NoMemory cause = refl
-check_suits w policy NoMemoryToRun (inl cause) = absurd cause
-check_suits w policy NoMemoryToRun (inr (p, has, cause)) = absurd cause
-check_suits w policy TooLarge cause = refl
-check_suits w policy (PolicyRefused fault) cause = refl
-check_suits w policy (RecordingRefused fault) (inl cause) = absurd cause
-check_suits w policy (RecordingRefused fault) (inr (p, has, cause)) = absurd cause
+check_suits w policy ending (inl cause) = loads_so _ _ _ ending cause
+check_suits w policy ending (inr (p, has, cause)) = writing_suits ending (writes_so _ w.out_before w.out_after w.put_before w.put_after ending cause)
 
 replay_suits : (w : Outside) (policy recording : List ℕ) → IsReplayCause w policy recording Usage → ⊥
 replay_suits w policy recording (inl cause) = cause
@@ -73,26 +84,26 @@ replay_suits w policy recording (inr (p, has, inr (bytes, items, taken, cause)))
 
 gen_suits : (text : List ℕ) (before after : Option (List ℕ)) (count_before count_after : ℕ) (ending : Ending) → IsGenEnding text before after count_before count_after ending → is_of_gen ending ≡ true
 gen_suits text before after count_before count_after Done cause = refl
-gen_suits text before after count_before count_after Usage cause = absurd cause
-gen_suits text before after count_before count_after ReadFault cause = absurd cause
 gen_suits text before after count_before count_after WriteFault cause = refl
 gen_suits text before after count_before count_after NoMemory cause = refl
 gen_suits text before after count_before count_after NoMemoryToRun cause = refl
-gen_suits text before after count_before count_after TooLarge cause = absurd cause
-gen_suits text before after count_before count_after (PolicyRefused fault) cause = absurd cause
-gen_suits text before after count_before count_after (RecordingRefused fault) cause = absurd cause
+gen_suits text before after count_before count_after other cause = absurd cause
+
+flatten_suits : (w : Outside) (outer name inner : List ℕ) (ending : Ending) → IsFlattenCause w outer name inner ending → is_of_flatten ending ≡ true
+flatten_suits w outer name inner ending (inl cause) = divides_too ending (loads_so _ _ _ ending cause)
+flatten_suits w outer name inner ending (inr (p, has, inl (unnamed, is))) = ap is_of_flatten is
+flatten_suits w outer name inner ending (inr (p, has, inr (slot, named, inl cause))) = divides_too ending (loads_so _ _ _ ending cause)
+flatten_suits w outer name inner ending (inr (p, has, inr (slot, named, inr (q, inner_has, inl (inl is))))) = ap is_of_flatten is
+flatten_suits w outer name inner ending (inr (p, has, inr (slot, named, inr (q, inner_has, inl (inr (fault, refused, is)))))) = ap is_of_flatten is
+flatten_suits w outer name inner ending (inr (p, has, inr (slot, named, inr (q, inner_has, inr (made, is, cause))))) =
+    divides_too ending (writing_suits ending (writes_so _ w.out_before w.out_after w.put_before w.put_after ending cause))
 
 cause_suits : (w : Outside) (form : Option FormBytes) (ending : Ending) → Causes w form ending → Suits None form ending
-cause_suits w None ending cause = inl cause
 cause_suits w (Some (OfCheck policy)) ending cause = check_suits w policy ending cause
 cause_suits w (Some (OfReplay policy recording)) ending cause = λ is. replay_suits w policy recording (subst (λ e. IsReplayCause w policy recording e) is cause)
 cause_suits w (Some (OfGen seed count)) ending cause = gen_suits _ w.out_before w.out_after w.put_before w.put_after ending cause
-cause_suits w (Some (OfServe policy listen count)) ending cause = inl cause
-cause_suits w (Some (OfVirtual policy recording)) ending cause = inl cause
-cause_suits w (Some (OfChange old new recording)) ending cause = inl cause
-cause_suits w (Some (OfFlatten outer name inner)) ending cause = inl cause
-cause_suits w (Some (OfAudit policy trace)) ending cause = inl cause
-cause_suits w (Some (OfTrace policy recording)) ending cause = inl cause
+cause_suits w (Some (OfFlatten outer name inner)) ending cause = flatten_suits w outer name inner ending cause
+cause_suits w other ending cause = inl cause
 
 not_done : {A : Type 0} → (Done ≡ Usage) ⊎ (Done ≡ NoMemory) → A
 not_done (inl e) = absurd (cc)
@@ -103,24 +114,12 @@ fault_suits : (form : Option FormBytes) → Suits None form Done → Suits None 
 fault_suits (Some (OfCheck policy)) _ = refl
 fault_suits (Some (OfReplay policy recording)) _ = λ e. cc
 fault_suits (Some (OfGen seed count)) _ = refl
-fault_suits None done = not_done done
-fault_suits (Some (OfServe policy listen count)) done = not_done done
-fault_suits (Some (OfVirtual policy recording)) done = not_done done
-fault_suits (Some (OfChange old new recording)) done = not_done done
-fault_suits (Some (OfFlatten outer name inner)) done = not_done done
-fault_suits (Some (OfAudit policy trace)) done = not_done done
-fault_suits (Some (OfTrace policy recording)) done = not_done done
+fault_suits (Some (OfFlatten outer name inner)) _ = refl
+fault_suits other done = not_done done
 
 only_done : (ending : Ending) (failed : Bool) → (ending_status ending == 0 && failed) ≡ true → ending ≡ Done
 only_done Done failed e = refl
-only_done Usage failed e = absurd (cc)
-only_done ReadFault failed e = absurd (cc)
-only_done WriteFault failed e = absurd (cc)
-only_done NoMemory failed e = absurd (cc)
-only_done NoMemoryToRun failed e = absurd (cc)
-only_done TooLarge failed e = absurd (cc)
-only_done (PolicyRefused fault) failed e = absurd (cc)
-only_done (RecordingRefused fault) failed e = absurd (cc)
+only_done other failed e = absurd (cc)
 
 pub after_run : (w : Outside) (words : List (List ℕ)) (failed : Bool) (before between after : Option (List ℕ)) (count count_between count_after status result : ℕ)
     → EndedWith w words before between count count_between status

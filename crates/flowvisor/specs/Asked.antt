@@ -1,8 +1,8 @@
 -- What words ask for, and how what they ask for may end. All of this is the program's own rule.
 use Rattle.std.specs.Prelude.{◌≡◌, ◌≢◌, ◌⊎◌, ℕ, Bool, true, false, if◌then◌else◌, List, [], ◌∷◌, Option, None, Some, bytes_eq, codes}
-use Rattle.fv_base.specs.Words.{FormBytes, OfCheck, OfReplay, OfGen}
+use Rattle.fv_base.specs.Words.{FormBytes, OfCheck, OfReplay, OfGen, OfFlatten}
 use Rattle.fv_cli.specs.declared.ending.Ending.{Ending}
-use Rattle.fv_cli.specs.declared.ending.Ending.TheVariants.{Done, Usage, WriteFault, NoMemory, NoMemoryToRun, RecordingRefused}
+use Rattle.fv_cli.specs.declared.ending.Ending.TheVariants.{Done, Usage, WriteFault, NoMemory, NoMemoryToRun, RecordingRefused, NoSlice, NestRefused}
 use Rattle.fv_cli.specs.Endings.{ending_status, ending_line, IsPut}
 use Rattle.flowvisor.specs.declared.help_and_version.TheConstants.{HELP, VERSION}
 
@@ -15,12 +15,18 @@ abbrev pub text_in : List (List ℕ) → Option (List ℕ)
 text_in (word ∷ []) = text_asked word
 text_in _ = None
 
--- an ending that a check of a policy can have: none of words without a form, of a recording, or of a run
+-- an ending that a division of a slice can have: none of words without a form, of a recording, or of a run
+abbrev pub is_of_flatten : Ending → Bool
+is_of_flatten Usage = false
+is_of_flatten (RecordingRefused fault) = false
+is_of_flatten NoMemoryToRun = false
+is_of_flatten _ = true
+
+-- an ending that a check of a policy can have: the same, but none of a division
 abbrev pub is_of_check : Ending → Bool
-is_of_check Usage = false
-is_of_check (RecordingRefused fault) = false
-is_of_check NoMemoryToRun = false
-is_of_check _ = true
+is_of_check NoSlice = false
+is_of_check (NestRefused fault) = false
+is_of_check ending = is_of_flatten ending
 
 -- an ending that a call can have that makes a recording: it reads no file
 abbrev pub is_of_gen : Ending → Bool
@@ -30,12 +36,13 @@ is_of_gen NoMemory = true
 is_of_gen NoMemoryToRun = true
 is_of_gen _ = false
 
--- words that ask for a text end well or with a fault of writing; words without a form, and those of `serve` and of what isn't done yet, end with the usage, where there is memory to say so; a check ends as a check can, a replay never with the usage, and a made recording as one can
+-- words that ask for a text end well or with a fault of writing; words without a form, and those of `serve` and of what isn't done yet, end with the usage, where there is memory to say so; a check ends as a check can, a replay never with the usage, and a made recording and a division as they can
 abbrev pub Suits : Option (List ℕ) → Option FormBytes → Ending → Type 0
 Suits (Some text) form ending = (ending ≡ Done) ⊎ (ending ≡ WriteFault)
 Suits None (Some (OfCheck policy)) ending = is_of_check ending ≡ true
 Suits None (Some (OfReplay policy recording)) ending = ending ≢ Usage
 Suits None (Some (OfGen seed count)) ending = is_of_gen ending ≡ true
+Suits None (Some (OfFlatten outer name inner)) ending = is_of_flatten ending ≡ true
 Suits None _ ending = (ending ≡ Usage) ⊎ (ending ≡ NoMemory)
 
 -- A call that ended with a status: one ending that suits gives the status, and its line was put.

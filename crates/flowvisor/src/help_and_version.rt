@@ -11,6 +11,7 @@ usage: flowvisor check POLICY
        flowvisor replay POLICY RECORDING
        flowvisor gen SEED COUNT
        flowvisor serve POLICY LISTEN COUNT
+       flowvisor flatten OUTER NAME INNER
 
 check says whether the policy is accepted, and how many slices and rules it has.
 
@@ -25,10 +26,13 @@ serve listens at LISTEN, as 0.0.0.0:6633, and stands between each switch that co
 controllers of the slices, for 16 switches at once; one more is turned away. It ends when COUNT switches have
 connected, at most 1,000,000,000, and all connections have ended.
 
-The exit status is 0, or 1 for other words, 2 where the policy is refused, 3 where the recording is, 4 where
-a file can't be read, 5 where the output can't be written, 6 where memory runs out, 7 where a file is too
-large, 9 where it can't listen or accept a connection, and 10 where a thread can't be started. Each status but
-0 has a line on standard error.
+flatten prints the policy OUTER in which the holder of the slice NAME has divided it by the policy INNER: the
+slices of INNER stand in the place of NAME, and have of its packets what INNER gives them.
+
+The exit status is 0, or 1 for other words, 2 where a policy is refused or a slice can't be divided so, 3 where
+the recording is refused, 4 where a file can't be read, 5 where the output can't be written, 6 where memory runs
+out, 7 where a file is too large, 9 where it can't listen or accept a connection, and 10 where a thread can't be
+started. Each status but 0 has a line on standard error.
 ";
 
 /// What `--version` prints.

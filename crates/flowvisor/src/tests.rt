@@ -227,7 +227,7 @@ fn each_work_runs_on_a_thread(rt: HostRuntime) -> Result<(), Fail> {
 }
 
 const USAGE: &str =
-    "usage: flowvisor check POLICY / replay POLICY RECORDING / gen SEED COUNT / serve POLICY LISTEN COUNT\n";
+    "usage: flowvisor check POLICY / replay POLICY RECORDING / gen SEED COUNT / serve POLICY LISTEN COUNT / flatten OUTER NAME INNER\n";
 
 /// The words; one that begins with `@` is the path of the scratch file of that name.
 fn words(rt: &HostRuntime, said: &str) -> Result<Vec<String>, Fail> {

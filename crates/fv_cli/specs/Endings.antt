@@ -2,9 +2,13 @@
 use Rattle.std.specs.Prelude.{◌≡◌, ℕ, ◌<◌, ◌≤◌, ◌⊎◌, List, [], length, codes, Bool, true, false, Option, Some, None, IfSome, Result, Ok, Err}
 use Rattle.fv_base.specs.Told.{appended, IsBeginning, Rose}
 use Rattle.fv_base.specs.Words.{FormBytes, OfCheck, OfReplay, OfGen, OfServe, OfVirtual, OfChange, OfFlatten, OfAudit, OfTrace, form_of}
+use Rattle.flowspace.specs.Slices.{slot_named}
 use Rattle.flowspace.specs.Policies.{PolicyView, IsPolicy}
 use Rattle.policy_text.specs.declared.fault.ReadFault as text
 use Rattle.policy_text.specs.Documents.{document_of, policy_of}
+use Rattle.policy_text.specs.Printing.{text_of}
+use Rattle.nested_slices.specs.declared.fault.NestFault.{NestFault}
+use Rattle.nested_slices.specs.Refused.{flatten_of}
 use Rattle.fv_generator.specs.Made.{records_of}
 use Rattle.fv_generator.specs.Policies.{the_policy}
 use Rattle.recording.specs.declared.item.Item.{Item}
@@ -15,8 +19,8 @@ use Rattle.desk_words.specs.Recorded.{told_in}
 use Rattle.desk_words.specs.Reports.{report}
 use Rattle.run_words.specs.Summaries.{summary}
 use Rattle.fv_cli.specs.declared.ending.Ending.{Ending}
-use Rattle.fv_cli.specs.declared.ending.Ending.TheVariants.{Done, Usage, ReadFault, WriteFault, NoMemory, NoMemoryToRun, TooLarge, PolicyRefused, RecordingRefused}
-use Rattle.fv_cli.specs.Lines.{policy_line, recording_line, accepted_line}
+use Rattle.fv_cli.specs.declared.ending.Ending.TheVariants.{Done, Usage, ReadFault, WriteFault, NoMemory, NoMemoryToRun, TooLarge, PolicyRefused, RecordingRefused, NoSlice, NestRefused}
+use Rattle.fv_cli.specs.Lines.{policy_line, recording_line, nest_line, accepted_line}
 
 abbrev pub ending_status : Ending → ℕ
 ending_status Done = 0
@@ -28,11 +32,13 @@ ending_status WriteFault = 5
 ending_status NoMemory = 6
 ending_status NoMemoryToRun = 6
 ending_status TooLarge = 7
+ending_status NoSlice = 2
+ending_status (NestRefused fault) = 2
 
 -- the line on the error stream; nothing where all was done
 abbrev pub ending_line : Ending → List ℕ
 ending_line Done = []
-ending_line Usage = codes "usage: flowvisor check POLICY / replay POLICY RECORDING / gen SEED COUNT / serve POLICY LISTEN COUNT\n"
+ending_line Usage = codes "usage: flowvisor check POLICY / replay POLICY RECORDING / gen SEED COUNT / serve POLICY LISTEN COUNT / flatten OUTER NAME INNER\n"
 ending_line (PolicyRefused fault) = policy_line fault
 ending_line (RecordingRefused fault) = recording_line fault
 ending_line ReadFault = codes "read fault\n"
@@ -40,15 +46,17 @@ ending_line WriteFault = codes "write fault\n"
 ending_line NoMemory = codes "no memory\n"
 ending_line NoMemoryToRun = codes "no memory\n"
 ending_line TooLarge = codes "too large\n"
+ending_line NoSlice = codes "nest: no slice\n"
+ending_line (NestRefused fault) = nest_line fault
 
--- the limits of the two files in bytes
+-- the limits of policies and of recordings in bytes
 abbrev pub policy_limit : ℕ
 policy_limit = 1048576
 
 abbrev pub recording_limit : ℕ
 recording_limit = 268435456
 
--- ---- what was read of the two files
+-- ---- what was read of files
 
 -- where the file is told, it passes the limit
 abbrev pub PassesLimit : ℕ → Option (List ℕ) → Type 0
@@ -123,6 +131,11 @@ WithRecording w path slices More ending =
     IsRecordingCause slices (w.files path) (w.read_before path) (w.read_after path) ending
     ⊎ ((bytes : List ℕ) × (items : List Item) × HasRecording slices (w.files path) bytes items × More (told_in bytes items) ending)
 
+-- a policy has no slice of the name; or it has one, and more holds of its slot
+abbrev pub WithSlot : PolicyView → List ℕ → (ℕ → Ending → Type 0) → Ending → Type 0
+WithSlot p name More ending =
+    ((slot_named p.slices name ≡ None) × (ending ≡ NoSlice)) ⊎ ((slot : ℕ) × (slot_named p.slices name ≡ Some slot) × More slot ending)
+
 -- the ending of a call that had only this text to write
 abbrev pub IsWriteEnding : List ℕ → Option (List ℕ) → Option (List ℕ) → ℕ → ℕ → Ending → Type 0
 IsWriteEnding text before after count_before count_after Done = after ≡ appended before text
@@ -148,6 +161,21 @@ IsCheckCause w policy = WithPolicy w policy (λ p. WriteOf w (accepted_line p))
 abbrev pub IsReplayCause : Outside → List ℕ → List ℕ → Ending → Type 0
 IsReplayCause w policy recording = WithPolicy w policy (λ p. WithRecording w recording (length p.slices) (λ records. RunOf w (report p records)))
 
+-- a division makes no text: memory ran out, or it is refused for its fault
+abbrev pub IsRefusedDivision : Result PolicyView NestFault → Ending → Type 0
+IsRefusedDivision division ending = (ending ≡ NoMemory) ⊎ ((fault : NestFault) × (division ≡ Err fault) × (ending ≡ NestRefused fault))
+
+-- the ending of a call that divides a slice: there is no text, or that of the flat policy is written
+abbrev pub IsFlatEnding : Result PolicyView NestFault → Option (List ℕ) → Option (List ℕ) → ℕ → ℕ → Ending → Type 0
+IsFlatEnding division before after count_before count_after ending =
+    IsRefusedDivision division ending
+    ⊎ ((made : PolicyView) × (division ≡ Ok made) × IsWriteEnding (text_of made) before after count_before count_after ending)
+
+-- the cause of an ending, where the words asked for the policy in which a slice is divided: the outer policy, then the name, then the inner policy
+abbrev pub IsFlattenCause : Outside → List ℕ → List ℕ → List ℕ → Ending → Type 0
+IsFlattenCause w outer name inner =
+    WithPolicy w outer (λ p. WithSlot p name (λ slot. WithPolicy w inner (λ q. IsFlatEnding (flatten_of p slot q) w.out_before w.out_after w.put_before w.put_after)))
+
 -- the ending of a call that makes a recording and runs it, which has this summary
 abbrev pub IsGenEnding : List ℕ → Option (List ℕ) → Option (List ℕ) → ℕ → ℕ → Ending → Type 0
 IsGenEnding text before after count_before count_after NoMemory = Unit {0}
@@ -162,7 +190,7 @@ Causes w (Some (OfGen seed count)) ending = IsGenEnding (summary the_policy (rec
 Causes w (Some (OfServe policy listen count)) ending = ending ≡ Usage
 Causes w (Some (OfVirtual policy recording)) ending = ending ≡ Usage
 Causes w (Some (OfChange old new recording)) ending = ending ≡ Usage
-Causes w (Some (OfFlatten outer name inner)) ending = ending ≡ Usage
+Causes w (Some (OfFlatten outer name inner)) ending = IsFlattenCause w outer name inner ending
 Causes w (Some (OfAudit policy trace)) ending = ending ≡ Usage
 Causes w (Some (OfTrace policy recording)) ending = ending ≡ Usage
 
@@ -221,13 +249,25 @@ pub record IsReadyRecording (w : Outside) (path : List ℕ) (slices : ℕ) : Typ
 abbrev pub ReadyPolicy : Outside → List ℕ → (PolicyView → Type 0) → Type 0
 ReadyPolicy w path More = (p : PolicyView) × IsReadyPolicy w path p × More p
 
--- the words have a form that is done here, and the files that they name are ready
-abbrev pub AreReady : Outside → Option FormBytes → Type 0
-AreReady w (Some (OfCheck policy)) = ReadyPolicy w policy (λ p. Unit {0})
-AreReady w (Some (OfReplay policy recording)) = ReadyPolicy w policy (λ p. IsReadyRecording w recording (length p.slices))
-AreReady w (Some (OfGen seed count)) = Unit {0}
-AreReady w _ = ⊥
+-- the status that a division has: 2 where it is refused
+abbrev pub division_status : Result PolicyView NestFault → ℕ
+division_status (Ok made) = 0
+division_status (Err fault) = 2
 
--- where these are ready and the output's count didn't rise, all was done or memory ran out
+-- status 2 is due of a name that no slice has; of another what is due of its slot
+abbrev pub IsDueOfSlot : Option ℕ → (ℕ → Type 0) → ℕ → Type 0
+IsDueOfSlot None More status = status ≡ 2
+IsDueOfSlot (Some slot) More status = More slot
+
+-- the words have a form that is done here, the files that it reads are ready, and this status is due for what they say
+abbrev pub IsDue : Outside → Option FormBytes → ℕ → Type 0
+IsDue w (Some (OfCheck policy)) status = ReadyPolicy w policy (λ p. status ≡ 0)
+IsDue w (Some (OfReplay policy recording)) status = ReadyPolicy w policy (λ p. IsReadyRecording w recording (length p.slices) × (status ≡ 0))
+IsDue w (Some (OfGen seed count)) status = status ≡ 0
+IsDue w (Some (OfFlatten outer name inner)) status =
+    ReadyPolicy w outer (λ p. IsDueOfSlot (slot_named p.slices name) (λ slot. ReadyPolicy w inner (λ q. status ≡ division_status (flatten_of p slot q))) status)
+IsDue w _ status = ⊥
+
+-- a call has the status that is due, or memory ran out, where the output's count didn't rise
 abbrev pub Completes : Outside → Option FormBytes → ℕ → Type 0
-Completes w form status = AreReady w form → (Rose w.put_before w.put_after → ⊥) → (status ≡ 0) ⊎ (status ≡ 6)
+Completes w form status = (due : ℕ) → IsDue w form due → (Rose w.put_before w.put_after → ⊥) → (status ≡ due) ⊎ (status ≡ 6)

@@ -11,6 +11,8 @@ use Rattle.policy_text.specs.declared.fault.ReadFault.TheVariants as reading
 use Rattle.policy_text.specs.Places.{field_key, key_path_text}
 use Rattle.recording.specs.declared.fault.RecordingFault.{RecordingFault}
 use Rattle.recording.specs.declared.fault.RecordingFault.TheVariants as recording
+use Rattle.nested_slices.specs.declared.fault.NestFault.{NestFault}
+use Rattle.nested_slices.specs.declared.fault.NestFault.TheVariants as nest
 use Rattle.fv_cli.specs.declared.lines.Piece.{Piece}
 use Rattle.fv_cli.specs.declared.lines.Piece.TheVariants.{Text, Number}
 
@@ -68,6 +70,16 @@ recording_line (recording.Torn at) = codes "recording: torn record at " ++ decim
 recording_line (recording.Bad at) = codes "recording: bad record at " ++ decimal at ++ codes "\n"
 recording_line (recording.NotOpen at) = codes "recording: not open at " ++ decimal at ++ codes "\n"
 recording_line recording.Memory = codes "no memory\n"
+
+-- the line of a division that is refused: a place and sums are the inner policy's, and a fault of the flat policy has its own line
+abbrev pub nest_line : NestFault → List ℕ
+nest_line nest.Swaps = codes "nest: ports\n"
+nest_line (nest.Reader rule) = codes "nest: rule " ++ decimal rule ++ codes " has no writer\n"
+nest_line (nest.Rate sum) = codes "nest: rate " ++ decimal sum ++ codes "\n"
+nest_line (nest.Burst sum) = codes "nest: burst " ++ decimal sum ++ codes "\n"
+nest_line (nest.Quota sum) = codes "nest: quota " ++ decimal sum ++ codes "\n"
+nest_line (nest.Refused fault) = codes "policy: " ++ refusal_text fault ++ codes "\n"
+nest_line nest.Memory = codes "no memory\n"
 
 -- what is said of an accepted policy: how many slices and how many rules it has
 abbrev pub accepted_line : PolicyView → List ℕ

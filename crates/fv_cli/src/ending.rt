@@ -5,7 +5,8 @@ ghost use Rattle.fv_cli.specs.Endings.{ending_status, ending_line, IsPut};
 ghost use Rattle.fv_cli.specs.Lines.{whole_text};
 
 use crate::base::Sink;
-use crate::lines::{Line, plain_line, policy_line, put_pieces, recording_line};
+use crate::lines::{Line, nest_line, plain_line, policy_line, put_pieces, recording_line};
+use nested_slices::NestFault;
 use policy_text::ReadFault;
 use recording::RecordingFault;
 
@@ -26,10 +27,14 @@ pub enum Ending {
     NoMemoryToRun,
     /// A file passes its limit.
     TooLarge,
-    /// The policy's text gives no policy. The fault is never want of memory.
+    /// The policy's text gives no policy. The fault is never that memory ran out.
     PolicyRefused(ReadFault),
-    /// The recording has no form. The fault is never want of memory.
+    /// The recording has no form. The fault is never that memory ran out.
     RecordingRefused(RecordingFault),
+    /// The policy has no slice of the name.
+    NoSlice,
+    /// The slice can't be divided so. The fault is never that memory ran out.
+    NestRefused(NestFault),
 }
 
 impl Ending {
@@ -40,7 +45,7 @@ impl Ending {
         match self {
             Ending::Done => 0,
             Ending::Usage => 1,
-            Ending::PolicyRefused(_) => 2,
+            Ending::PolicyRefused(_) | Ending::NoSlice | Ending::NestRefused(_) => 2,
             Ending::RecordingRefused(_) => 3,
             Ending::ReadFault => 4,
             Ending::WriteFault => 5,
@@ -55,7 +60,7 @@ impl Ending {
         match self {
             Ending::Done => plain_line(""),
             Ending::Usage => plain_line(
-                "usage: flowvisor check POLICY / replay POLICY RECORDING / gen SEED COUNT / serve POLICY LISTEN COUNT\n",
+                "usage: flowvisor check POLICY / replay POLICY RECORDING / gen SEED COUNT / serve POLICY LISTEN COUNT / flatten OUTER NAME INNER\n",
             ),
             Ending::ReadFault => plain_line("read fault\n"),
             Ending::WriteFault => plain_line("write fault\n"),
@@ -63,6 +68,8 @@ impl Ending {
             Ending::TooLarge => plain_line("too large\n"),
             Ending::PolicyRefused(fault) => policy_line(fault),
             Ending::RecordingRefused(fault) => recording_line(*fault),
+            Ending::NoSlice => plain_line("nest: no slice\n"),
+            Ending::NestRefused(fault) => nest_line(*fault),
         }
     }
 

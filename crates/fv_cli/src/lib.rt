@@ -2,10 +2,13 @@
 #![tactic(auto)]
 
 mod ending;
+mod flattening;
 mod lines;
+mod loading;
 mod program;
 
 pub use ending::Ending;
 pub use fv_base as base;
 pub use fv_report::{ReportFault, report};
-pub use program::{load_policy, offline};
+pub use loading::load_policy;
+pub use program::offline;

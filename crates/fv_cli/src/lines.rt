@@ -5,11 +5,12 @@ ghost use Rattle.std.specs.Prelude.{◌≡◌, ◌≤◌, ◌++◌, ℕ, List, c
 ghost use Rattle.fv_base.specs.Told.{appended, IsBeginning, Rose};
 ghost use Rattle.flowspace.specs.Policies.{IsPolicy};
 ghost use Rattle.policy_text.specs.Places.{field_key, key_path_text};
-ghost use Rattle.fv_cli.specs.Lines.{piece_text, whole_text, what_text, improper_text, refusal_text, reading_text, policy_line, recording_line, accepted_line};
+ghost use Rattle.fv_cli.specs.Lines.{piece_text, whole_text, what_text, improper_text, refusal_text, reading_text, policy_line, recording_line, nest_line, accepted_line};
 
 use crate::base::{Failed, Sink, put_all};
 use flowspace::{Field, Policy, PolicyFault, What};
 use itoa::Buffer;
+use nested_slices::NestFault;
 use policy_text::{Part, Place, ReadFault};
 use recording::RecordingFault;
 
@@ -189,11 +190,10 @@ fn reading(fault: &ReadFault) -> [Piece<'_>; 5]
     }
 }
 
-/// The line of a policy that is refused.
-pub(crate) fn policy_line(fault: &ReadFault) -> Line<'_>
-    ensures { whole_text result ≡ policy_line fault.now }
+fn of_policy(pieces: [Piece<'_>; 5]) -> Line<'_>
+    ensures { whole_text result ≡ codes "policy: " ++ whole_text pieces.entry ++ codes "\n" }
 {
-    let [a, b, c, d, e] = reading(fault);
+    let [a, b, c, d, e] = pieces;
     [
         Piece::Text("policy: "),
         a,
@@ -206,13 +206,20 @@ pub(crate) fn policy_line(fault: &ReadFault) -> Line<'_>
     ]
 }
 
-fn at_record<'a>(fault: &'static str, at: u64) -> Line<'a>
-    ensures { whole_text result ≡ fault.now ++ decimal at ++ codes "\n" }
+/// The line of a policy that is refused.
+pub(crate) fn policy_line(fault: &ReadFault) -> Line<'_>
+    ensures { whole_text result ≡ policy_line fault.now }
+{
+    of_policy(reading(fault))
+}
+
+fn numbered<'a>(before: &'static str, number: u64, after: &'static str) -> Line<'a>
+    ensures { whole_text result ≡ before.now ++ decimal number ++ after.now }
 {
     [
-        Piece::Text(fault),
-        Piece::Number(at),
-        Piece::Text("\n"),
+        Piece::Text(before),
+        Piece::Number(number),
+        Piece::Text(after),
         NOTHING,
         NOTHING,
         NOTHING,
@@ -242,10 +249,25 @@ pub(crate) fn recording_line<'a>(fault: RecordingFault) -> Line<'a>
     ensures { whole_text result ≡ recording_line fault }
 {
     match fault {
-        RecordingFault::Torn(at) => at_record("recording: torn record at ", at),
-        RecordingFault::Bad(at) => at_record("recording: bad record at ", at),
-        RecordingFault::NotOpen(at) => at_record("recording: not open at ", at),
+        RecordingFault::Torn(at) => numbered("recording: torn record at ", at, "\n"),
+        RecordingFault::Bad(at) => numbered("recording: bad record at ", at, "\n"),
+        RecordingFault::NotOpen(at) => numbered("recording: not open at ", at, "\n"),
         RecordingFault::Memory => plain_line("no memory\n"),
+    }
+}
+
+/// The line of a division that is refused.
+pub(crate) fn nest_line<'a>(fault: NestFault) -> Line<'a>
+    ensures { whole_text result ≡ nest_line fault }
+{
+    match fault {
+        NestFault::Swaps => plain_line("nest: ports\n"),
+        NestFault::Reader(rule) => numbered("nest: rule ", rule, " has no writer\n"),
+        NestFault::Rate(sum) => numbered("nest: rate ", sum, "\n"),
+        NestFault::Burst(sum) => numbered("nest: burst ", sum, "\n"),
+        NestFault::Quota(sum) => numbered("nest: quota ", sum, "\n"),
+        NestFault::Refused(fault) => of_policy(refusal(fault)),
+        NestFault::Memory => plain_line("no memory\n"),
     }
 }
 

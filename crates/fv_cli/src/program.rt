@@ -1,6 +1,6 @@
 //! The program's call without the system: the words in, files and output by their traits, the status out.
 
-ghost use Rattle.std.specs.Prelude.{◌≡◌, ◌≤◌, ◌<◌, ◌^◌, ℕ, List, length, true, Ok, IfOk, IfErr, IfSome, OnOk};
+ghost use Rattle.std.specs.Prelude.{◌≡◌, ◌≤◌, List, length, true, Ok, IfOk};
 ghost use Rattle.fv_base.specs.Words.{form_of};
 ghost use Rattle.recording.specs.declared.item.Item.{Item};
 ghost use Rattle.recording.specs.Recordings.{all_told, read_items};
@@ -9,82 +9,16 @@ ghost use Rattle.desk_words.specs.Reports.{report};
 ghost use Rattle.fv_generator.specs.Made.{records_of};
 ghost use Rattle.fv_generator.specs.Policies.{the_policy};
 ghost use Rattle.run_words.specs.Summaries.{summary};
-ghost use Rattle.fv_cli.specs.Endings.{PolicySays, HasRecording, IsLoadCause, IsPolicyCause, IsRecordingCause, IsRunEnding, IsGenEnding, IsCheckCause, IsReplayCause, Causes, is_before_run, CountsReads, CountsPuts, EndedWith, Completes};
+ghost use Rattle.fv_cli.specs.Endings.{IsRunEnding, IsGenEnding, IsCheckCause, IsReplayCause, Causes, is_before_run, CountsReads, CountsPuts, EndedWith, Completes};
 
-use crate::base::{Failed, Files, Form, LoadFault, Sink, Words, WordsFault, load_file, read_words};
+use crate::base::{Failed, Files, Form, Sink, Words, WordsFault, read_words};
 use crate::ending::Ending;
+use crate::flattening::flatten;
 use crate::lines::{accepted_line, put_pieces};
+use crate::loading::{load_policy, load_recording};
 use flowspace::Policy;
 use fv_report::{ReportFault, report, summarise};
-use policy_text::ReadFault;
-use recording::accept;
 use std::alloc::{AllocError, Global};
-
-/// Most bytes of a policy: 1 MiB.
-const POLICY_LIMIT: u64 = 1_048_576;
-
-/// Most bytes of a recording: 256 MiB.
-const RECORDING_LIMIT: u64 = 268_435_456;
-
-/// A whole file.
-fn load<F: Files>(alloc: Global, files: &mut F, path: &str, limit: u64) -> Result<Vec<u8>, Ending>
-    requires { limit < 2 ^ 60 }
-    ensures within { IfOk result (λ file. length file.items ≤ limit) }
-    ensures whole { IfOk result (λ file. IfSome (F.contents files.old path.now) (λ bytes. file.items ≡ bytes)) }
-    ensures cause { IfErr result (IsLoadCause limit (F.contents files.old path.now) (F.faults files.old path.now) (F.faults files.new path.now)) }
-    ensures same { (at : List ℕ) → F.contents files.new at ≡ F.contents files.old at }
-    ensures calm { OnOk result ((at : List ℕ) → F.faults files.new at ≡ F.faults files.old at) }
-    ensures reads { IfErr result (λ ending. CountsReads ending (F.faults files.old) (F.faults files.new)) }
-{
-    match load_file(alloc, files, path, limit) {
-        Ok(bytes) => Ok(bytes),
-        Err(LoadFault::ReadFault) => Err(Ending::ReadFault),
-        Err(LoadFault::TooLarge) => Err(Ending::TooLarge),
-        Err(LoadFault::Memory) => Err(Ending::NoMemory),
-    }
-}
-
-/// The policy at a path.
-pub fn load_policy<F: Files>(alloc: Global, files: &mut F, path: &str) -> Result<Policy, Ending>
-    ensures says { IfOk result (λ p. PolicySays (Ok p) (F.contents files.old path.now)) }
-    ensures cause { IfErr result (IsPolicyCause (F.contents files.old path.now) (F.faults files.old path.now) (F.faults files.new path.now)) }
-    ensures same { (at : List ℕ) → F.contents files.new at ≡ F.contents files.old at }
-    ensures calm { OnOk result ((at : List ℕ) → F.faults files.new at ≡ F.faults files.old at) }
-    ensures reads { IfErr result (λ ending. CountsReads ending (F.faults files.old) (F.faults files.new)) }
-{
-    let bytes = match load(alloc, files, path, POLICY_LIMIT) {
-        Ok(bytes) => bytes,
-        Err(ending) => return Err(ending),
-    };
-    match policy_text::read(alloc, &bytes) {
-        Ok(policy) => Ok(policy),
-        Err(ReadFault::Memory) => Err(Ending::NoMemory),
-        Err(fault) => Err(Ending::PolicyRefused(fault)),
-    }
-}
-
-/// The file of the recording at a path, which is accepted under a policy of so many slices.
-fn load_recording<F: Files>(
-    alloc: Global,
-    files: &mut F,
-    path: &str,
-    slices: u8,
-) -> Result<Vec<u8>, Ending>
-    ensures has { IfOk result (λ file. (items : List Item) × HasRecording slices (F.contents files.old path.now) file.items items) }
-    ensures cause { IfErr result (IsRecordingCause slices (F.contents files.old path.now) (F.faults files.old path.now) (F.faults files.new path.now)) }
-    ensures same { (at : List ℕ) → F.contents files.new at ≡ F.contents files.old at }
-    ensures calm { OnOk result ((at : List ℕ) → F.faults files.new at ≡ F.faults files.old at) }
-    ensures reads { IfErr result (λ ending. CountsReads ending (F.faults files.old) (F.faults files.new)) }
-{
-    let bytes = match load(alloc, files, path, RECORDING_LIMIT) {
-        Ok(bytes) => bytes,
-        Err(ending) => return Err(ending),
-    };
-    match accept(&bytes, slices) {
-        Ok(()) => Ok(bytes),
-        Err(fault) => Err(Ending::RecordingRefused(fault)),
-    }
-}
 
 /// Says whether the policy is accepted.
 fn check<F: Files, O: Sink>(alloc: Global, policy: &str, files: &mut F, out: &mut O) -> Ending
@@ -181,11 +115,11 @@ fn decide<F: Files, O: Sink>(alloc: Global, words: &Words, files: &mut F, out: &
         Ok(Form::Check { policy }) => check(alloc, policy, files, out),
         Ok(Form::Replay { policy, recording }) => replay(alloc, policy, recording, files, out),
         Ok(Form::Gen { seed, count }) => generate(alloc, seed, count, out),
+        Ok(Form::Flatten { outer, name, inner }) => flatten(alloc, outer, name, inner, files, out),
         Ok(
             Form::Serve { .. }
             | Form::Virtual { .. }
             | Form::Change { .. }
-            | Form::Flatten { .. }
             | Form::Audit { .. }
             | Form::Trace { .. },
         )
@@ -193,21 +127,27 @@ fn decide<F: Files, O: Sink>(alloc: Global, words: &Words, files: &mut F, out: &
     }
 }
 
-/// Does what the words ask for, and answers the exit status: `check POLICY` says on `out` how many slices
-/// and rules an accepted policy has, and `replay POLICY RECORDING` writes there the report of the recording
-/// under the policy, and `gen SEED COUNT` the summary of a recording that it makes. `serve POLICY LISTEN
-/// COUNT` is none of its forms. Each status but 0 has a line, which goes to `err`.
+/// Does what the words ask for, and answers the exit status. What it writes to `out`:
+///
+/// - `check POLICY`: how many slices and rules an accepted policy has
+/// - `replay POLICY RECORDING`: the report of the recording under the policy
+/// - `gen SEED COUNT`: the summary of a recording that it makes
+/// - `flatten OUTER NAME INNER`: the text of the policy of OUTER in which the slice NAME is divided by INNER
+///
+/// `serve POLICY LISTEN COUNT` is none of its forms. Each status but 0 has a line, which goes to `err`.
 ///
 /// | status | means |
 /// |---|---|
 /// | 0 | all was done |
 /// | 1 | the words have no form, or that of `serve` |
-/// | 2, 3 | the policy, or the recording, was read and is refused; the line says why and where |
+/// | 2 | a policy was read and is refused, or the division is; the line says why and where |
+/// | 3 | the recording was read and is refused; the line says why and where |
 /// | 4, 5 | a file can't be read; the output can't be written |
-/// | 6, 7 | no memory; a file is too large (policy 1 MiB, recording 256 MiB) |
+/// | 6, 7 | out of memory; a file is too large (policy 1 MiB, recording 256 MiB) |
 ///
-/// The words are looked at first, then the policy and then the recording; nothing is written to `out`
-/// before all of them are found good.
+/// The words are looked at first, then each file in their order, which is read and accepted before the next one;
+/// a slice's name is looked up before the inner policy is read. Nothing is written to `out` before all of them
+/// are found good.
 pub fn offline<F: Files, O: Sink, E: Sink>(
     alloc: Global,
     words: &Words,

@@ -1,7 +1,7 @@
 -- Causes of a finish, seen at other names of the same moments, and what they say where no count rose.
 use Rattle.std.proofs.Common.{◌≡◌, ◌≤◌, ℕ, List, length, refl, sym, ap, subst, arith, inl, inr, ◌⊎◌, ◌∙◌}
 use Rattle.std.specs.Prelude.{Option, Some, None, Ok, Err}
-use Rattle.fv_base.specs.Words.{FormBytes, OfCheck, OfReplay, OfGen, OfServe, OfVirtual, OfChange, OfFlatten, OfAudit, OfTrace}
+use Rattle.fv_base.specs.Words.{FormBytes, OfServe}
 use Rattle.fv_live.specs.Roles.{Role}
 use Rattle.flowspace.specs.Policies.{PolicyView}
 use Rattle.policy_text.specs.declared.fault.ReadFault.{ReadFault}
@@ -43,24 +43,12 @@ complete_run w policy count a b (Ran Done) cause ready calm = inl refl
 complete_run w policy count a b (Ran NoMemory) cause ready calm = inr refl
 complete_run w policy count a b (Ran WireFault) cause ready calm = absurd (calm.wires cause.2.1)
 complete_run w policy count a b (Ran NoThread) cause ready calm = absurd (calm.starts cause.2.1)
-complete_run w policy count a b (Early early.Done) cause ready calm = inl refl
-complete_run w policy count a b (Early early.Usage) cause ready calm = absurd cause.0
 complete_run w policy count a b (Early early.ReadFault) cause ready calm = absurd (ready.calm cause.0)
-complete_run w policy count a b (Early early.WriteFault) cause ready calm = absurd cause.0
 complete_run w policy count a b (Early early.NoMemory) cause ready calm = inr refl
-complete_run w policy count a b (Early early.NoMemoryToRun) cause ready calm = inr refl
 complete_run w policy count a b (Early early.TooLarge) cause ready calm = absurd (read_within ready.bytes ready.p ready.says (subst (λ file. PassesLimit policy_limit file) ready.told cause.0))
 complete_run w policy count a b (Early (early.PolicyRefused fault)) cause ready calm = absurd (not_refused ready.bytes ready.p fault ready.says (subst (λ file. PolicySays (Err fault) file) ready.told cause.0))
-complete_run w policy count a b (Early (early.RecordingRefused fault)) cause ready calm = absurd cause.0
+complete_run w policy count a b (Early other) cause ready calm = absurd cause.0
 
 pub complete : (w : ServeReads) (a b : Places) (form : Option FormBytes) (finish : Finish) → ServeCauses w a b form finish → ServeCompletes w a b form (finish_status finish)
-complete w a b None finish cause ready = absurd ready
-complete w a b (Some (OfCheck policy)) finish cause ready = absurd ready
-complete w a b (Some (OfReplay policy recording)) finish cause ready = absurd ready
-complete w a b (Some (OfGen seed count)) finish cause ready = absurd ready
-complete w a b (Some (OfVirtual policy recording)) finish cause ready = absurd ready
-complete w a b (Some (OfChange old new recording)) finish cause ready = absurd ready
-complete w a b (Some (OfFlatten outer name inner)) finish cause ready = absurd ready
-complete w a b (Some (OfAudit policy trace)) finish cause ready = absurd ready
-complete w a b (Some (OfTrace policy recording)) finish cause ready = absurd ready
 complete w a b (Some (OfServe policy listen count)) finish cause ready = complete_run w policy count (a listen) (b listen) finish cause ready.0 ready.1
+complete w a b other finish cause ready = absurd ready

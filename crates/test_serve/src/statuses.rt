@@ -14,7 +14,7 @@ use std::sync::atomic::{AtomicBool, AtomicU64, Ordering};
 use std::test::Fail;
 
 const USAGE: &str = "usage: flowvisor check POLICY / replay POLICY RECORDING / gen SEED COUNT / \
-serve POLICY LISTEN COUNT\n";
+serve POLICY LISTEN COUNT / flatten OUTER NAME INNER\n";
 
 /// A call of `serve`: its words; which reads of files, which calls of `listen` and `accept`, and which starts of
 /// threads fail, by their numbers from 0. And what comes of it: the status and its line, how many works had run to

@@ -5,5 +5,5 @@ use Rattle.fv_cli.proofs.Completing.{completes}
 use Rattle.fv_cli.proofs.program.offline.Goals as goal
 
 pub returns-clause-complete : goal.returns-clause-complete
-returns-clause-complete g c = λ ready calm.
-    subst (λ (status : ℕ). (status ≡ 0) ⊎ (status ≡ 6)) (sym c.status.ensures) (completes _ (form_of c.args.words.now) c.decide-ending.result c.decide-ending.ensures.cause ready calm)
+returns-clause-complete g c = λ due is calm.
+    subst (λ (status : ℕ). (status ≡ due) ⊎ (status ≡ 6)) (sym c.status.ensures) (completes _ (form_of c.args.words.now) c.decide-ending.result c.decide-ending.ensures.cause due is calm)
