@@ -18,14 +18,21 @@ pub(crate) fn words_in(alloc: Global, text: &str) -> Result<Words, Fault> {
     Ok(words)
 }
 
-/// The files of the call: a policy where the case has one, and a recording where it has steps.
+/// Adds a policy where the case has one.
+fn add_policy(files: &mut MemoryFiles, path: &str, policy: &[u8]) -> Result<(), Fault> {
+    if policy.is_empty() {
+        files.expect_missing(path)?;
+    } else {
+        files.add(path, policy)?;
+    }
+    Ok(())
+}
+
+/// The files of the call: the policies that the case has, and a recording where it has steps.
 fn files_of(alloc: Global, case: &Case, cut: Cut) -> Result<MemoryFiles, Fault> {
     let mut files = MemoryFiles::new(alloc);
-    if case.policy.is_empty() {
-        files.expect_missing("policy")?;
-    } else {
-        files.add("policy", &case.policy)?;
-    }
+    add_policy(&mut files, "policy", &case.policy.bytes)?;
+    add_policy(&mut files, "other", &case.other.bytes)?;
     if case.steps.is_empty() {
         files.expect_missing("recording")?;
     } else {
@@ -48,6 +55,19 @@ fn text_of(bytes: &[u8]) -> Result<&str, Fault> {
     text.ok_or(Fault::Bad("what came is no text"))
 }
 
+fn put_failed_reads(told: &mut String, files: &MemoryFiles) -> Result<(), Fault> {
+    let policy = files.faults("policy");
+    let other = files.faults("other");
+    let recording = files.faults("recording");
+    if policy != 0 || other != 0 || recording != 0 {
+        write!(
+            told,
+            "failed reads: policy {policy}, other {other}, recording {recording}\n"
+        )?;
+    }
+    Ok(())
+}
+
 /// What came of the call of a case, as a table spells it. Behind it stands how many reads of each file failed, where one
 /// did, and how many calls of the sink, where it isn't one with status 5 and none with all others.
 pub(crate) fn answer(alloc: Global, case: &Case, cut: Cut) -> Result<String, Fault> {
@@ -63,13 +83,7 @@ pub(crate) fn answer(alloc: Global, case: &Case, cut: Cut) -> Result<String, Fau
     if status != 0 || !err.as_slice().is_empty() {
         write!(told, "! {status} {}", text_of(err.as_slice())?)?;
     }
-    let (policy, recording) = (files.faults("policy"), files.faults("recording"));
-    if policy != 0 || recording != 0 {
-        write!(
-            told,
-            "failed reads: policy {policy}, recording {recording}\n"
-        )?;
-    }
+    put_failed_reads(&mut told, &files)?;
     let puts = out.faults();
     if puts != u64::from(status == 5) {
         write!(told, "failed puts: {puts}\n")?;

@@ -3,14 +3,16 @@
 //! - `# ..`: what the case shows
 //! - `> ..`: a step of its recording
 //! - `| ..`: a line of its policy
+//! - `& ..`: a line of its other policy
 //! - `: ..`: how it is played
 //! - any other: what is to come
 //!
 //! Names are written out in all but the first and those of `: words`; `opened` is a name of steps. A policy's line
 //! that ends with `\` has no line feed behind it. A policy, and how cases are played, hold for those behind it too,
-//! up to the end of the table; so they may stand alone. What is to come are the lines of the output, of which the last
-//! one ends with `\` where no line feed came, and, where the status isn't 0, `! ` with the status and the error line;
-//! where a read failed, `failed reads: policy 1, recording 0`.
+//! up to the end of the table; so they may stand alone. The files have the names `policy`, `other` and `recording`.
+//! What is to come are the lines of the output, where `_` is an empty one, and of which the last one ends with `\`
+//! where no line feed came; and, where the status isn't 0, `! ` with the status and the error line; where a read
+//! failed, `failed reads: policy 1, other 0, recording 0`.
 //!
 //! - `: words check|policy`: the words of the call; before, they are those of a replay
 //! - `: policy ff`: the policy, as digits of its bytes
@@ -49,6 +51,38 @@ pub(crate) struct Manner {
     pub(crate) by_bytes: bool,
 }
 
+/// The file of a policy; an empty one isn't there.
+#[derive(Drop)]
+pub(crate) struct PolicyFile {
+    pub(crate) bytes: Vec<u8>,
+    /// Whether it is that of the case before.
+    is_old: bool,
+}
+
+impl PolicyFile {
+    fn new(alloc: Global) -> PolicyFile {
+        PolicyFile {
+            bytes: Vec::new(alloc),
+            is_old: true,
+        }
+    }
+
+    fn put_line(&mut self, names: &Names, line: &str) -> Result<(), Fault> {
+        if self.is_old {
+            self.bytes.clear();
+            self.is_old = false;
+        }
+        let mut text = names.written_out(line)?;
+        if line.ends_with('\\') {
+            text.pop();
+        } else {
+            text.push_str("\n")?;
+        }
+        self.bytes.extend_from_slice(text.as_bytes())?;
+        Ok(())
+    }
+}
+
 /// A case, as far as it is read.
 #[derive(Drop)]
 pub(crate) struct Case {
@@ -56,9 +90,8 @@ pub(crate) struct Case {
     pub(crate) about: String,
     pub(crate) manner: Manner,
     pub(crate) words: String,
-    pub(crate) policy: Vec<u8>,
-    /// Whether the policy is the one before.
-    is_old_policy: bool,
+    pub(crate) policy: PolicyFile,
+    pub(crate) other: PolicyFile,
     pub(crate) steps: String,
     pub(crate) wanted: String,
 }
@@ -81,8 +114,8 @@ impl Case {
                 by_bytes: false,
             },
             words: String::from_str(alloc, "replay|policy|recording")?,
-            policy: Vec::new(alloc),
-            is_old_policy: true,
+            policy: PolicyFile::new(alloc),
+            other: PolicyFile::new(alloc),
             steps: String::new(alloc),
             wanted: String::new(alloc),
         })
@@ -91,7 +124,8 @@ impl Case {
     /// Goes on to the next case.
     pub(crate) fn clear(&mut self) {
         self.about.clear();
-        self.is_old_policy = true;
+        self.policy.is_old = true;
+        self.other.is_old = true;
         self.steps.clear();
         self.wanted.clear();
     }
@@ -99,26 +133,13 @@ impl Case {
     pub(crate) fn put_line(&mut self, names: &Names, line: &str) -> Result<(), Fault> {
         match line.split_once(" ").unwrap_or((line, "")) {
             ("#", _) => put_line(&mut self.about, line),
-            ("|", text) => self.put_policy_line(names, text),
+            ("|", text) => self.policy.put_line(names, text),
+            ("&", text) => self.other.put_line(names, text),
+            ("_", _) => put_line(&mut self.wanted, ""),
             (">", step) => put_line(&mut self.steps, names.written_out(step)?.as_str()),
             (":", setting) => self.set(names, setting),
             _ => put_line(&mut self.wanted, names.written_out(line)?.as_str()),
         }
-    }
-
-    fn put_policy_line(&mut self, names: &Names, line: &str) -> Result<(), Fault> {
-        if self.is_old_policy {
-            self.policy.clear();
-            self.is_old_policy = false;
-        }
-        let mut text = names.written_out(line)?;
-        if line.ends_with('\\') {
-            text.pop();
-        } else {
-            text.push_str("\n")?;
-        }
-        self.policy.extend_from_slice(text.as_bytes())?;
-        Ok(())
     }
 
     fn set(&mut self, names: &Names, setting: &str) -> Result<(), Fault> {
@@ -126,7 +147,7 @@ impl Case {
         match way {
             "words" => self.words = String::from_str(self.alloc, value)?,
             "policy" => {
-                self.policy = bytes_of(self.alloc, names.written_out(value)?.as_str())?;
+                self.policy.bytes = bytes_of(self.alloc, names.written_out(value)?.as_str())?;
             }
             "sink" => self.manner.most = number(value)? as usize,
             "fails" => self.manner.failing = Some(number(value)?),

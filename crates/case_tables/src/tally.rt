@@ -79,7 +79,7 @@ impl Tally {
 fn row_text(alloc: Global, case: &Case, given: &str) -> Result<String, Fault> {
     match case.manner.act {
         Act::Forms => form_text(alloc, given),
-        Act::Print => print_text(alloc, &case.policy),
-        Act::Call | Act::Read => read_with(alloc, &case.policy, given),
+        Act::Print => print_text(alloc, &case.policy.bytes),
+        Act::Call | Act::Read => read_with(alloc, &case.policy.bytes, given),
     }
 }
