@@ -1,3 +1,4 @@
+mod divisions;
 mod given;
 mod policies;
 mod questions;
