@@ -2,6 +2,7 @@
 import argparse
 import re
 
+from .divisions import accepted_flat_policy
 from .packet_sets import deciding_rule, packets_of
 from .policy_text import accepted_policy
 
@@ -11,7 +12,8 @@ EPILOG = """\
 PACKET is given by its fields, as ovs-ofctl writes them (in_port=1,tcp,nw_dst=10.0.0.1,tp_dst=80), or as the bytes of
 an Ethernet frame in hex, perhaps with its port before it (in_port=1,HEX). What isn't said is 0, and a packet without
 dl_vlan has no tag. Or it is a flow, as a line of ovs-ofctl dump-flows: there, what isn't said is any. All packets must
-go by one rule. Without --switch all switches that the policy names are told of, and any other.
+go by one rule. Without --switch all switches that the policy names are told of, and any other. With --under the slice
+NAME of OUTER is divided by POLICY, and the rules are those of the flat policy, as flowvisor flatten prints it.
 """
 
 DATAPATH = re.compile(r"[0-9A-Fa-f]{16}")
@@ -24,16 +26,23 @@ def datapath(text):
     return int(text, 16)
 
 
+def add_under(parser):
+    told = "the policy divides the slice NAME of the policy OUTER"
+    parser.add_argument("--under", metavar=("OUTER", "NAME"), nargs=2, help=told)
+
+
 def add_arguments(parser):
     parser.epilog = EPILOG
     parser.add_argument("--switch", metavar="ID", type=datapath, help="the switch's datapath id, in 16 hex digits")
+    add_under(parser)
     parser.add_argument("policy", metavar="POLICY", help="the policy's file")
     parser.add_argument("packet", metavar="PACKET", help="the packet, by its fields or in hex, or a flow")
 
 
 def run(arguments):
+    policy = accepted_flat_policy(*arguments.under, arguments.policy) if arguments.under else accepted_policy(arguments.policy)
     # Where one of several switches can't be told of, nothing is.
-    for line in list(told(accepted_policy(arguments.policy), arguments.packet, arguments.switch)):
+    for line in list(told(policy, arguments.packet, arguments.switch)):
         print(line)
     return 0
 
@@ -66,6 +75,7 @@ def explanation(policy, packets, switch):
         yield from nearest_miss(policy.in_order, packets, switch)
         return
     yield f"{rule} has it, of priority {rule.priority}"
+    yield from rule.told_origin()
     yield f"written by {rule.writer or 'nobody'}"
     yield f"read by {', '.join(rule.readers) or 'nobody else'}"
     yield from deciding_fields(rule, packets)

@@ -1,9 +1,10 @@
 """Prints all that is wrong with a policy, each with its line and column, and what looks like a mistake."""
 from .controllers import controller_warnings, unresolved_names
+from .divisions import divided, read_pair
+from .explain import add_under
 from .fields import packet_text
 from .policy import Finding, hidden_pairs, packet_in_both, partly_read_pairs
 from .policy_forms import read_network
-from .policy_text import read_policy_file
 
 NAME = "lint"
 SUMMARY = "tell all that is wrong with a policy"
@@ -11,7 +12,8 @@ EPILOG = """\
 A fault is what flowvisor check refuses the policy for; it tells the first one alone. A warning is what it accepts, but
 hardly was meant: a rule that never applies, bits of an address that don't count, a reader of some overlapping rules of
 a slice alone, a controller that can never be dialled, two slices with one controller. The status is 1 where there is a
-fault, and with --strict where there is a warning too.
+fault, and with --strict where there is a warning too. With --under what flowvisor flatten refuses is a fault too, and a
+rule that shares no packet with those of NAME is warned of.
 """
 
 
@@ -19,20 +21,28 @@ def add_arguments(parser):
     parser.epilog = EPILOG
     parser.add_argument("--strict", action="store_true", help="end with status 1 where there are warnings")
     parser.add_argument("--resolve", action="store_true", help="look up the hosts of controllers, and warn of those not found")
+    add_under(parser)
     parser.add_argument("policy", metavar="POLICY", help="the policy's file")
 
 
 def run(arguments):
-    reading = read_policy_file(arguments.policy)
-    warnings = warnings_of(reading)
+    read = read_pair(arguments.policy)
+    faults, warnings = read.reading.faults, warnings_of(read.reading)
+    counts = len(read.policy.slices), len(read.policy.rules)
     if arguments.resolve:
-        warnings += unresolved_names(reading.policy.slices)
-    told = [(finding, "fault") for finding in reading.faults] + [(finding, "warning") for finding in warnings]
+        warnings += unresolved_names(read.policy.slices)
+    if arguments.under:
+        division = divided(*arguments.under, read)
+        # A policy that is none divides nothing.
+        if not faults:
+            faults, counts = list(division.faults()), (len(division.slices), len(division.pairs))
+            warnings += division.warnings()
+    told = [(finding, "fault") for finding in faults] + [(finding, "warning") for finding in warnings]
     for finding, kind in sorted(told):
         place = finding.position
         print(f"{arguments.policy}:{place.line}:{place.column}: {kind}: {on_one_line(finding.text)}")
-    print(verdict(reading, len(warnings)))
-    return 1 if reading.faults or arguments.strict and warnings else 0
+    print(verdict(len(faults), counts, len(warnings)))
+    return 1 if faults or arguments.strict and warnings else 0
 
 
 def on_one_line(text):
@@ -40,13 +50,13 @@ def on_one_line(text):
     return "".join(one if one.isprintable() else repr(one)[1:-1] for one in text)
 
 
-def verdict(reading, warnings):
-    """The last line: whether the policy is accepted."""
+def verdict(faults, counts, warnings):
+    """The last line: whether the policy, or the flat one, is accepted, with its slices and rules."""
     also = f", {counted(warnings, 'warning')}" if warnings else ""
-    if reading.faults:
-        return f"refused: {counted(len(reading.faults), 'fault')}{also}"
-    policy = reading.policy
-    return f"accepted: {counted(len(policy.slices), 'slice')}, {counted(len(policy.rules), 'rule')}{also}"
+    if faults:
+        return f"refused: {counted(faults, 'fault')}{also}"
+    slices, rules = counts
+    return f"accepted: {counted(slices, 'slice')}, {counted(rules, 'rule')}{also}"
 
 
 def counted(count, noun):

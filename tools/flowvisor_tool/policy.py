@@ -117,6 +117,10 @@ class Rule:
     def __str__(self):
         return f"rule {self.index} (line {self.position.line})"
 
+    def told_origin(self):
+        """Lines that say where the rule comes from; it stands in a file as it is."""
+        return ()
+
 
 def rules_in_order(rules):
     """Rules by falling priority, and those of one priority as in the file."""

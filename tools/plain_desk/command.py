@@ -7,13 +7,15 @@ from dataclasses import dataclass
 from flowvisor_tool.policy_text import LARGEST_FILE
 from flowvisor_tool.recordings import LARGEST_RECORDING
 
+from .division import DivisionRefused, flattened
 from .generator import POLICY, rounds
 from .policy_file import PolicyRefused, read_policy
+from .policy_print import policy_lines
 from .recording import RecordingRefused, read_records
 from .report import report_lines
 from .summary import summary_lines
 
-USAGE = "usage: flowvisor check POLICY / replay POLICY RECORDING / gen SEED COUNT / serve POLICY LISTEN COUNT"
+USAGE = "usage: flowvisor check POLICY / replay POLICY RECORDING / gen SEED COUNT / serve POLICY LISTEN COUNT / flatten OUTER NAME INNER"
 NUMBER = re.compile("0|[1-9][0-9]*")
 SEEDS, MOST_ROUNDS = 1 << 64, 1_000_000
 
@@ -50,6 +52,8 @@ def answered(words):
             accepted = load_policy(POLICY)
             records = read_records(rounds(int(seed), int(count)), len(accepted.slices))
             return summary_lines(accepted, records)
+        case ["flatten", outer, name, inner] if are_words(outer, name, inner):
+            return policy_lines(divided(load_policy(outer), name, inner))
     raise Ending(1, USAGE)
 
 
@@ -84,6 +88,20 @@ def load_records(path, policy):
         return read_records(load(path, LARGEST_RECORDING), len(policy.slices))
     except RecordingRefused as refusal:
         raise Ending(3, f"recording: {refusal}") from None
+
+
+def divided(outer, name, path):
+    """The flat policy where the slice of this name is divided by the policy at a path, which is read behind the name."""
+    names = [one.name for one in outer.slices]
+    if name not in names:
+        raise Ending(2, "nest: no slice")
+    inner = load_policy(path)
+    try:
+        return flattened(outer, names.index(name), inner)
+    except DivisionRefused as refusal:
+        raise Ending(2, f"nest: {refusal}") from None
+    except PolicyRefused as refusal:
+        raise Ending(2, f"policy: {refusal}") from None
 
 
 def put(lines):

@@ -13,6 +13,7 @@ class Slice:
     """A controller's share; rate, burst and quota are for one switch."""
 
     name: str
+    controller: str
     rate: int
     burst: int
     quota: int

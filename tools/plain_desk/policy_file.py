@@ -91,7 +91,7 @@ def values_of(table, forms, required, place):
 
 def read_slice(slot, table):
     values = DEFAULTS | values_of(table, SLICE_FORMS, SLICE_REQUIRED, f"slice.{slot}.")
-    return Slice(values["name"], values["rate"], values["burst"], values["quota"])
+    return Slice(**{key: values[key] for key in SLICE_FORMS})
 
 
 def read_rule(place, table, names):

@@ -296,6 +296,39 @@ class Command(unittest.TestCase):
             r"nearest before it is rule 5 \(line \d+\)\nnot by dl_vlan_pcp = 5: the packet has 4\n\Z"
         ))
 
+    def test_a_rule_of_a_divided_slice(self):
+        inner = """version = 1
+[[slice]]
+name = "carol"
+controller = "c:3"
+[[rule]]
+priority = 1
+write = "carol"
+dl_type = 2048
+nw_src = "10.0.0.0/8"
+[[rule]]
+priority = 0
+write = "carol"
+nw_tos = 4
+dl_type = 2048
+"""
+        with tempfile.NamedTemporaryFile("w", suffix=".toml") as file:
+            file.write(inner)
+            file.flush()
+            outer = EXAMPLES / "two-slices.toml"
+            of_both = self.explain("--under", outer, "alice", file.name, "tcp,nw_src=10.0.0.1,tp_dst=80").out
+            of_one = self.explain("--under", outer, "alice", file.name, "tcp,nw_src=10.0.0.1,tp_dst=22").out
+            of_none = self.explain("--under", outer, "alice", file.name, "udp,tp_dst=80").out
+            unknown = self.explain("--under", outer, "zoe", file.name, "udp,tp_dst=80")
+        self.assertEqual(of_both.splitlines()[1:], [
+            "flat rule 0 has it, of priority 2", f"it comes from rule 0 (line 12) of {outer} and rule 0 (line 5) of {file.name}",
+            "written by carol", "read by nobody else", "by dl_type = 2048: the packet has 0x0800", "by nw_proto = 6: the packet has 6",
+            'by nw_src = "10.0.0.0/8": the packet has 10.0.0.1', "by tp_dst = 80: the packet has 80",
+        ])
+        self.assertEqual(of_one.splitlines()[1:3], ["flat rule 2 has it, of priority 0", f"it comes from rule 1 (line 19) of {outer}"])
+        self.assertEqual(of_none.splitlines()[1:3], ["no rule has it: it goes to nobody", "nearest is flat rule 0"])
+        self.assertEqual((unknown.status, unknown.err), (1, f"flowvisor-tool: {outer}: no slice of it is called zoe\n"))
+
     def test_a_line_of_dump_flows(self):
         flow = (
             " cookie=0x0, duration=2.048s, table=0, n_packets=0, n_bytes=0, idle_timeout=60, idle_age=2, priority=10,"

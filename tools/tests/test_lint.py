@@ -6,6 +6,7 @@ import tempfile
 import unittest
 import unittest.mock
 
+from drawn_divisions import DivisionMaker
 from policies import PolicyMaker
 from program import needs_program, run_program
 from running import EXAMPLES, run_tool
@@ -15,7 +16,7 @@ from flowvisor_tool.packet_sets import packets_of
 from flowvisor_tool.policy_text import read_policy
 from flowvisor_tool.toml_reader import Position
 
-COUNT = 2500
+COUNT, COUNT_OF_DIVISIONS = 2500, 200
 TOP = 'version = 1\n[[slice]]\nname = "alice"\ncontroller = "c:1"\n[[slice]]\nname = "bob"\ncontroller = "c:2"\n'
 
 
@@ -264,6 +265,74 @@ class Warnings(unittest.TestCase):
 
     def test_one_controller_for_two(self):
         self.assert_warned(TOP.replace("c:2", "C:1"), "7:14 slice 1: the controller is that of slice 0 (line 2) too")
+
+
+class Divisions(unittest.TestCase):
+    """A policy that divides a slice of another one."""
+
+    OUTER = TOP + '[[rule]]\npriority = 1\nwrite = "alice"\nin_port = 1\n[[rule]]\npriority = 1\nwrite = "bob"\nin_port = 2\n'
+    INNER = 'version = 1\n[[slice]]\nname = "carol"\ncontroller = "c:3"\n[[rule]]\npriority = 1\nwrite = "carol"\ndl_vlan = 1\n'
+
+    def setUp(self):
+        place = tempfile.TemporaryDirectory()
+        self.addCleanup(place.cleanup)
+        self.outer, self.inner = (str(pathlib.Path(place.name) / name) for name in ("outer", "inner"))
+        pathlib.Path(self.outer).write_text(self.OUTER)
+
+    def lint(self, inner, name="alice"):
+        """The status, and what is told behind the file's name."""
+        pathlib.Path(self.inner).write_text(inner)
+        outcome = run_tool("lint", "--under", self.outer, name, self.inner)
+        return outcome.status, [line.removeprefix(self.inner + ":") for line in outcome.out.splitlines()], outcome.err
+
+    def test_accepted(self):
+        self.assertEqual(self.lint(self.INNER), (0, ["accepted: 2 slices, 2 rules"], ""))
+
+    def test_a_rule_that_meets_nothing(self):
+        idle = f"5:1: warning: rule 0 (line 5) gives nothing: no rule of alice in {self.outer} has any of its packets"
+        self.assertEqual(self.lint(self.INNER + "in_port = 2\n"), (0, [idle, "accepted: 2 slices, 1 rule, 1 warning"], ""))
+
+    def test_refusals(self):
+        for inner, told_of in [
+            (self.INNER.replace('write = "carol"\n', ""), "5:1: fault: rule 0 (line 5) has no writer, but each rule by which a slice is divided must have one"),
+            (self.INNER.replace('"c:3"', '"c:3"\nrate = 1001'), "2:1: fault: the slices have rate 1001 together, but alice has 1000 messages a second"),
+            (self.INNER.replace('"c:3"', '"c:3"\nburst = 1001'), "2:1: fault: the slices have burst 1001 together, but alice has 1000 messages at once"),
+            (self.INNER.replace('"c:3"', '"c:3"\nquota = 1025'), "2:1: fault: the slices have quota 1025 together, but alice has 1024 flow entries"),
+            (self.INNER.replace("carol", "bob"), f"3:8: fault: slice 0: the name bob is that of slice 1 (line 5) of {self.outer}"),
+        ]:
+            self.assertEqual(self.lint(inner), (1, [told_of, "refused: 1 fault"], ""))
+
+    def test_limits(self):
+        share = "rate = 1\nburst = 1\nquota = 1\n"
+        slices = "".join(f'[[slice]]\nname = "s{slot}"\ncontroller = "c{slot}:1"\n{share}' for slot in range(32))
+        status, lines, _ = self.lint("version = 1\n" + slices)
+        self.assertEqual((status, lines), (1, ["188:1: fault: there are 33 slices in all, but at most 32 may be", "refused: 1 fault"]))
+        rules = "".join(f'[[rule]]\npriority = 1\nwrite = "carol"\ntp_dst = {port}\nnw_proto = 6\ndl_type = 2048\n' for port in range(256))
+        halves = self.OUTER.replace("in_port = 1\n", "in_port = 1\n[[rule]]\npriority = 1\nwrite = \"alice\"\nin_port = 3\n", 1)
+        pathlib.Path(self.outer).write_text(halves)
+        status, lines, _ = self.lint(self.INNER.split("[[rule]]")[0] + rules)
+        self.assertEqual((status, lines), (1, ["2:1: fault: carol would write 512 rules, but may write at most 256", "refused: 1 fault"]))
+
+    def test_faults_of_its_own(self):
+        self.assertEqual(self.lint(self.INNER.replace("carol", "Carol", 1))[1][-1], "refused: 2 faults")
+
+    def test_other_words(self):
+        self.assertEqual(self.lint(self.INNER, "zoe"), (1, [], f"flowvisor-tool: {self.outer}: no slice of it is called zoe\n"))
+        pathlib.Path(self.outer).write_text(TOP.replace("bob", "alice"))
+        self.assertEqual(self.lint(self.INNER)[::2], (1, f"flowvisor-tool: {self.outer}: it isn't accepted: flowvisor-tool lint tells why\n"))
+
+    @needs_program
+    def test_as_the_program_says(self):
+        for seed in range(COUNT_OF_DIVISIONS):
+            with self.subTest(seed=seed):
+                outer, name, inner = DivisionMaker(seed).division()
+                pathlib.Path(self.outer).write_bytes(outer)
+                program = run_program("flatten", self.outer, name, self.write(inner))
+                self.assertEqual(self.lint(inner.decode(), name)[0] == 0, program.returncode == 0, program.stderr)
+
+    def write(self, inner):
+        pathlib.Path(self.inner).write_bytes(inner)
+        return self.inner
 
 
 class Command(unittest.TestCase):

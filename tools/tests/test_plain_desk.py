@@ -8,6 +8,7 @@ import tempfile
 import unittest
 
 import drawn_recordings
+from drawn_divisions import DivisionMaker
 from policies import PolicyMaker
 from program import needs_program, run_program
 from running import EXAMPLES, Outcome
@@ -40,7 +41,7 @@ OPENING = [
     record(SWITCH_UP, 0), record(SWITCH_BYTES, 0, features_reply(0xFF000001, 0xA1, [1, 2, 3])), record(SLICE_UP, 0),
 ]
 EVENTS_OF_OPENING = 3
-COUNT_OF_RECORDINGS, COUNT_OF_POLICIES, COUNT_OF_MESSAGES = 40, 400, 120
+COUNT_OF_RECORDINGS, COUNT_OF_POLICIES, COUNT_OF_DIVISIONS, COUNT_OF_MESSAGES = 40, 400, 400, 120
 
 
 def run(*words):
@@ -178,7 +179,7 @@ class Agreement(unittest.TestCase):
     def setUp(self):
         place = tempfile.TemporaryDirectory()
         self.addCleanup(place.cleanup)
-        self.policy, self.recording = (pathlib.Path(place.name) / name for name in ("policy", "recording"))
+        self.policy, self.inner, self.recording = (pathlib.Path(place.name) / name for name in ("policy", "inner", "recording"))
 
     def agrees(self, *words):
         """Compares both, and gives what both say."""
@@ -204,6 +205,17 @@ class Agreement(unittest.TestCase):
         self.assertEqual(statuses, {0, 2})
 
     @needs_program
+    def test_drawn_divisions(self):
+        lines = set()
+        for seed in range(COUNT_OF_DIVISIONS):
+            with self.subTest(seed=seed):
+                outer, name, inner = DivisionMaker(seed).division()
+                self.policy.write_bytes(outer)
+                self.inner.write_bytes(inner)
+                lines.add(self.agrees("flatten", self.policy, name, self.inner).err)
+        self.assertTrue({"", "nest: no slice\n", "policy: slice 1 is a duplicate\n", "nest: rule 0 has no writer\n"} <= lines, lines)
+
+    @needs_program
     def test_rounds(self):
         for seed in (0, 7, 2**64 - 1):
             self.agrees("gen", str(seed), "300")
@@ -222,6 +234,56 @@ class Drawing(unittest.TestCase):
         self.assertTrue({"00010005", "00010008", "00020004", "00020006", "00030002"} <= errors, errors)
         for word in ("lane 010e", "lane 010d", "lane 0110", "to alice 010a", "to bob 010a", "to carol 010a", "to alice 0111", "close"):
             self.assertTrue(any(word in line for line in lines), word)
+
+
+class Divisions(unittest.TestCase):
+    OUTER = """version = 1
+slice = [{ name = "a", controller = "c" }, { name = "h", controller = "c" }, { name = "b", controller = "c" }]
+rule = [
+  { priority = 9, write = "h", read = ["b", "a"], in_port = 1 }, { priority = 8, write = "b", read = ["a", "h"], in_port = 2 },
+  { priority = 7, read = ["h"], in_port = 3 }, { priority = 7, write = "h", in_port = 1, switch = "00000000000000a1" },
+]
+"""
+    INNER = """version = 1
+slice = [{ name = "x", controller = "c", rate = 1, burst = 1, quota = 1 }, { name = "h", controller = "c", rate = 9, burst = 9, quota = 9 }]
+rule = [
+  { priority = 1, write = "h", in_port = 1, dl_vlan = 5 }, { priority = 2, write = "x", read = ["h"], dl_vlan = 6, switch = "00000000000000a2" },
+]
+"""
+
+    def setUp(self):
+        place = tempfile.TemporaryDirectory()
+        self.addCleanup(place.cleanup)
+        self.outer, self.inner = (pathlib.Path(place.name) / name for name in ("outer", "inner"))
+        self.outer.write_text(self.OUTER)
+
+    def flatten(self, inner, name="h"):
+        self.inner.write_text(inner)
+        return run("flatten", self.outer, name, self.inner)
+
+    def test_rules_and_readers(self):
+        out = self.flatten(self.INNER).out
+        self.assertEqual(re.findall(r'name = "(\w)"', out), ["a", "b", "x", "h"])
+        rules = [" ".join(rule.split("\n")[1:]).strip() for rule in out.split("[[rule]]")[1:]]
+        self.assertEqual(rules, [
+            'switch = "00000000000000a2" priority = 4 write = "x" read = ["a", "b", "h"] in_port = 1 dl_vlan = 6',
+            'priority = 3 write = "h" read = ["a", "b"] in_port = 1 dl_vlan = 5',
+            'priority = 2 write = "b" read = ["a"] in_port = 2',
+            "priority = 1 in_port = 3",
+            'switch = "00000000000000a1" priority = 0 write = "h" in_port = 1 dl_vlan = 5',
+        ])
+
+    def test_refusals(self):
+        for inner, line in [
+            (self.INNER.replace("rate = 9", "rate = 1000"), "nest: rate 1001"),
+            (self.INNER.replace("burst = 9, quota = 9", "burst = 1000, quota = 4096"), "nest: burst 1001"),
+            (self.INNER.replace("quota = 9", "quota = 1024"), "nest: quota 1025"),
+            (self.INNER.replace('write = "h", ', ""), "nest: rule 0 has no writer"),
+            (self.INNER.replace('name = "x"', 'name = "b"').replace('write = "x"', 'write = "b"'), "policy: slice 2 is a duplicate"),
+            ("version = 2", "policy: bad value version"),
+        ]:
+            self.assertEqual(self.flatten(inner), Outcome(2, "", line + "\n"))
+        self.assertEqual(self.flatten("version = 2", "x"), Outcome(2, "", "nest: no slice\n"))
 
 
 class Policies(unittest.TestCase):
