@@ -16,7 +16,7 @@ class Capture:
         self.process = None
         if not lacks("tcpdump"):
             words = " or ".join(f"tcp port {port}" for port in ports)
-            self.process = processes.start("tcpdump", "tcpdump", "-i", "lo", "-s", "0", "-U", "-w", "-", words, output=self.path)
+            self.process = processes.start("tcpdump", "tcpdump", "-i", "lo", "-s", "0", "--immediate-mode", "-U", "-w", "-", words, output=self.path)
             wait_for("tcpdump listens or ends", STARTED, lambda: self.has_begun() or self.process.poll() is not None)
 
     def has_begun(self):

@@ -1,4 +1,4 @@
-"""The checks: what docs/OPERATING.md shows of a proxy between Open vSwitch and controllers, each in one line."""
+"""The checks: what docs/OPERATING.md says of a proxy between Open vSwitch and controllers, each in one line."""
 import signal
 import time
 
@@ -10,6 +10,7 @@ from .processes import LeftOut, Processes, Unmet, is_listening, lacks, wait_for
 from .proxies import balance, serve, shared_policy, sole_policy
 from .seal import Seal
 from .switches import Switches
+from .watching import Greedy, Watched
 
 WEB, SHELL, NOBODY = 80, 22, 443
 # Seconds: until a packet was answered, until nothing more comes of one, and until a controller that is back was dialled.
@@ -244,7 +245,7 @@ class Many:
 def run(program):
     """Runs all checks, prints a line for each, and gives how many passed and how many failed."""
     verdicts = []
-    for site_verdicts in (shared_verdicts, sealed_verdicts, many_verdicts):
+    for site_verdicts in (shared_verdicts, sealed_verdicts, watched_verdicts, many_verdicts):
         for text, fault in site_verdicts(program):
             word = "passed" if fault is None else "left out" if isinstance(fault, LeftOut) else "failed"
             print(f"{word}: {text}" if fault is None else f"{word}: {text}: {fault}", flush=True)
@@ -262,6 +263,13 @@ def sealed_verdicts(program):
     """The checks of TLS."""
     with Processes() as processes:
         yield from verdicts_of(Sealed.CHECKS, lambda: Sealed(processes, program))
+
+
+def watched_verdicts(program):
+    """The checks of what watches a proxy."""
+    ports = free_port(), free_port()
+    with Processes() as processes, Greedy(ports[1]):
+        yield from verdicts_of(Watched.CHECKS, lambda: Watched(processes, program, ports))
 
 
 def many_verdicts(program):
