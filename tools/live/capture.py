@@ -16,7 +16,9 @@ class Capture:
         self.process = None
         if not lacks("tcpdump"):
             words = " or ".join(f"tcp port {port}" for port in ports)
-            self.process = processes.start("tcpdump", "tcpdump", "-i", "lo", "-s", "0", "--immediate-mode", "-U", "-w", "-", words, output=self.path)
+            # As `watch --how` has them: without the buffer a busy machine drops packets.
+            options = "-i", "lo", "-s", "0", "-B", "65536", "--immediate-mode", "-U", "-w", "-"
+            self.process = processes.start("tcpdump", "tcpdump", *options, words, output=self.path)
             wait_for("tcpdump listens or ends", STARTED, lambda: self.has_begun() or self.process.poll() is not None)
 
     def has_begun(self):

@@ -44,6 +44,8 @@ class Shared:
     def shell_packet(self, port=1):
         """A packet for port 22 reaches bob, and his flow is in the switch."""
         before = packets_of_bob(self.processes)
+        # Bob's program passes over packets that come before it knows what the switch is.
+        time.sleep(2 * QUIET)
         self.switches.inject("br0", port, 1, 2, (1024, SHELL))
         wait_for("bob gets a packet for port 22", ANSWERED, lambda: packets_of_bob(self.processes) > before)
         wait_for(
