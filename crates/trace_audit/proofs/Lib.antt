@@ -4,3 +4,10 @@ pub mod Passing
 pub mod ByType
 pub mod Sent
 pub mod Hearing
+pub mod Sessions
+pub mod Frames
+pub mod Taking
+pub mod Walking
+pub mod Running
+pub mod Whole
+pub mod Readable

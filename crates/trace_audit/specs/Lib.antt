@@ -1,4 +1,5 @@
 pub mod Judging
 pub mod Facts
+pub mod Sessions
 pub mod Auditing
 pub mod Standing

@@ -3,13 +3,18 @@
 #![tactic(auto)]
 
 mod actions;
+mod auditing;
+mod fault;
 mod heard;
 mod judging;
 pub mod laws;
 mod messages;
 mod session;
+mod switch;
 mod why;
 
+pub use auditing::audit;
+pub use fault::AuditFault;
 pub use judging::{flow_mod_why, packet_out_why};
 pub use messages::message_why;
 pub use session::Session;

@@ -19,7 +19,7 @@ use std::alloc::{AllocError, Global};
 use std::collections::BTreeMap;
 
 /// The bytes that a record of the file carries.
-fn carried<'a>(file: &'a [u8], item: &Item) -> &'a [u8]
+pub(crate) fn carried<'a>(file: &'a [u8], item: &Item) -> &'a [u8]
     ensures { result.now ≡ bytes_carried file.now item.now }
 {
     let rest = file.get(item.from..).unwrap_or(&[]);
