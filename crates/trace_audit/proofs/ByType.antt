@@ -1,9 +1,8 @@
 -- A frame that reads as a flow-mod or a packet-out is one by its type.
-use Rattle.std.proofs.Common.{◌≡◌, ℕ, ◌==◌, not, Bool, true, false, cond, List, length, drop, slice_index, Result, Ok, Err, refl, sym, ap, ◌∙◌, eqb-true, true≢false}
+use Rattle.std.proofs.Common.{◌≡◌, ℕ, ◌==◌, not, Bool, true, false, cond, List, length, slice_index, Result, Ok, Err, refl, sym, ap, ◌∙◌, eqb-true, true≢false}
 use Rattle.std.proofs.lemmas.Bool.{not-false}
 use Rattle.of10_model.proofs.Results.{either}
 use Rattle.of10_action.specs.declared.fault.WireFault.{WireFault}
-use Rattle.of10_action.specs.declared.fault.WireFault.TheVariants.{Length}
 use Rattle.of10_ctl.specs.declared.kind.TheConstants as kinds
 use Rattle.of10_ctl.specs.Frames.{IsFrame, is_bad}
 use Rattle.of10_ctl.specs.Kinds.{IsOf}

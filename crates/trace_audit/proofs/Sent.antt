@@ -1,6 +1,5 @@
 -- A message with which nothing is wrong has its facts.
 use Rattle.std.proofs.Common.{◌≡◌, ℕ, List, Option, Some, None, Result, Ok, Err, refl, sym, ap, ◌∙◌, inl, inr}
-use Rattle.of10_model.specs.Header.{Header}
 use Rattle.of10_port.specs.declared.features.Features.{Features}
 use Rattle.of10_ctl.specs.Frames.{IsFrame}
 use Rattle.of10_message.specs.declared.controller.FromController.{FromController}
@@ -11,13 +10,12 @@ use Rattle.flowspace.specs.Order.{rules_on}
 use Rattle.flowspace.specs.Policies.{PolicyView, IsPolicy}
 use Rattle.flowspace.proofs.Parts.{IsSwitchPolicy-rules_on}
 use Rattle.desk_words.specs.declared.event.Timed.{Timed}
-use Rattle.desk_words.specs.Openings.{opening_of, rules_of}
+use Rattle.desk_words.specs.Openings.{opening_of}
 use Rattle.desk_words.specs.Arrivals.{buffer_header}
-use Rattle.flow_facts.specs.Messages.{IsEitherRead}
 use Rattle.trace_audit.specs.declared.why.Why.{Why}
 use Rattle.trace_audit.specs.declared.why.Why.TheVariants as why
 use Rattle.trace_audit.specs.Auditing.{read_why, message_why}
-use Rattle.trace_audit.specs.Facts.{KeepsFlowspace, KeepsPackets, KeepsSlice}
+use Rattle.trace_audit.specs.Facts.{KeepsSlice}
 use Rattle.trace_audit.proofs.ByType.{reads_flow_mod, reads_packet_out}
 use Rattle.trace_audit.proofs.Passing.{flow_mod_passed, packet_out_passed}
 

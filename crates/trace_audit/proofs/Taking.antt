@@ -13,7 +13,7 @@ use Rattle.desk_words.specs.Recorded.{timed_at}
 use Rattle.trace_audit.specs.declared.why.Why.{Why}
 use Rattle.trace_audit.specs.declared.switch.Switch.{Switch}
 use Rattle.trace_audit.specs.Sessions.{event_told, session_of}
-use Rattle.trace_audit.specs.Auditing.{message_why, record_why}
+use Rattle.trace_audit.specs.Auditing.{message_why}
 use Rattle.trace_audit.specs.Standing.{SessionStands, AreRulesOf, SwitchStands, IsFresh, Takes, SwitchesStand, TakesAmong}
 use Rattle.trace_audit.proofs.Sessions.{session_away, session_sent, session_told}
 

@@ -1,5 +1,5 @@
 -- The records of a trace that is read whole, one after the other.
-use Rattle.std.proofs.Common.{◌≡◌, ◌+◌, ◌-◌, ◌<◌, ◌≤◌, ℕ, zero, suc, not, ltb, List, [], ◌∷◌, take, length, bytes_eq, Result, Ok, Err, refl, sym, ap, ◌∙◌, subst, arith}
+use Rattle.std.proofs.Common.{◌≡◌, ◌+◌, ◌-◌, ◌<◌, ◌≤◌, ℕ, zero, suc, not, ltb, List, [], ◌∷◌, take, length, bytes_eq, Ok, refl, sym, ap, ◌∙◌, subst, arith}
 use Rattle.std.proofs.lemmas.Bool.{ltb-false, lt-leb, not-false}
 use Rattle.of10_model.specs.Normal.{number_at}
 use Rattle.of10_model.specs.Results.{◌>>=◌}

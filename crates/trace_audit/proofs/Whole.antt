@@ -8,7 +8,6 @@ use Rattle.flowspace.specs.Policies.{PolicyView, IsPolicy}
 use Rattle.recording.specs.declared.item.Item.{Item}
 use Rattle.recording.specs.declared.layout.Layout.TheVariants.{Trace}
 use Rattle.recording.specs.Recordings.{Told, IsRead, item_at, read_trace, sent_bytes}
-use Rattle.desk_words.specs.declared.event.Timed.{Timed}
 use Rattle.desk_words.specs.Recorded.{bytes_carried, told_by, told_in}
 use Rattle.trace_audit.specs.declared.why.Why.{Why}
 use Rattle.trace_audit.specs.Auditing.{message_why, record_why, first_wrong, sent_count, answer_of, GivesAudit}

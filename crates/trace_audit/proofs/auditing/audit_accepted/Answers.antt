@@ -1,11 +1,10 @@
-use Rattle.std.proofs.Common.{◌≡◌, ◌+◌, ◌≤◌, ◌==◌, ℕ, List, length, ◌*◌, Option, Ok, sym, subst, ◌∙◌, arith}
+use Rattle.std.proofs.Common.{◌+◌, ◌≤◌, ◌==◌, length, Option, Ok, sym, subst, ◌∙◌, arith}
 use Rattle.std.proofs.lemmas.Bool.{cond-true, cond-false, eq-eqb, ne_eqb}
-use Rattle.recording.specs.declared.item.Item.{Item}
 use Rattle.recording.specs.Recordings.{sent_bytes}
 use Rattle.desk_words.specs.Recorded.{told_by, bytes_carried}
 use Rattle.trace_audit.specs.declared.why.Why.{Why}
 use Rattle.trace_audit.specs.Standing.{TakesAmong}
-use Rattle.trace_audit.proofs.Running.{Auditing, auditing_first, auditing_next, auditing_more, auditing_wrong, auditing_last, auditing_long}
+use Rattle.trace_audit.proofs.Running.{auditing_first, auditing_next, auditing_more, auditing_wrong, auditing_last, auditing_long}
 use Rattle.trace_audit.proofs.auditing.audit_accepted.Goals.{then-item-eq-SENT_BYTES, else-item-eq-SENT_BYTES}
 use Rattle.trace_audit.proofs.auditing.audit_accepted.Goals as goal
 

@@ -1,5 +1,4 @@
-use Rattle.std.proofs.Common.{ℕ, ◌≡◌, ◌≤◌, List, length, Some, slice_get, arith}
-use Rattle.trace_audit.specs.declared.switch.Switch.{Switch}
+use Rattle.std.proofs.Common.{arith}
 use Rattle.trace_audit.specs.Standing.{IsFresh}
 use Rattle.trace_audit.proofs.Taking.{pushed}
 use Rattle.trace_audit.proofs.auditing.fresh_switches.Goals as goal

@@ -1,4 +1,4 @@
-use Rattle.std.proofs.Common.{List, ℕ, length, sym, subst, ◌≡◌, ◌<◌, Some, slice_get, set, arith}
+use Rattle.std.proofs.Common.{ℕ, length, sym, subst, ◌≡◌, ◌<◌, Some, slice_get, set, arith}
 use Rattle.std.proofs.lemmas.Option.{slice_get_read}
 use Rattle.recording.specs.declared.layout.Layout.TheVariants.{Trace}
 use Rattle.recording.proofs.Forms.{one_of_16}

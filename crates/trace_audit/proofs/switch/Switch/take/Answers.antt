@@ -2,7 +2,6 @@ use Rattle.std.proofs.Common.{List, ℕ, length, sym, ap, subst, ◌∙◌, ◌�
 use Rattle.of10_ctl.specs.Frames.{IsFrame}
 use Rattle.desk_words.specs.declared.event.Event.TheVariants.{SwitchMsg}
 use Rattle.desk_words.specs.Recorded.{bytes_carried, told_by, timed_at}
-use Rattle.recording.specs.declared.item.Item.{Item}
 use Rattle.trace_audit.specs.Sessions.{session_of}
 use Rattle.trace_audit.specs.Standing.{bytes_at, SessionStands}
 use Rattle.trace_audit.proofs.Frames.{carried_frame}
@@ -36,6 +35,5 @@ returns-in_ok-hear-in-1 c = λ before stands.
 
 pub returns-in_default : goal.returns-in_default
 returns-in_default c = λ before stands.
-    let own = c.in_default.in_default-own.rest in
-    down_takes c.args.policy.now c.args.file.now (told_by c.args.item.now (bytes_carried c.args.file.now c.args.item.now)) before (record { session = c.disconnect.new.self; rules = c.args.self.now.rules }) (λ e. omega (arith, own, e)) (λ e. omega (arith, own, e)) (λ e. omega (arith, own, e))
+    down_takes c.args.policy.now c.args.file.now (told_by c.args.item.now (bytes_carried c.args.file.now c.args.item.now)) before (record { session = c.disconnect.new.self; rules = c.args.self.now.rules }) (λ e. omega (arith, e)) (λ e. omega (arith, e)) (λ e. omega (arith, e))
     (c.disconnect.ensures c.args.file.now (session_of c.args.item.now.switch before) c.args.item.now.moment stands.session) stands.rules_kept
