@@ -303,10 +303,10 @@ fn words_are_answered_with_their_status(rt: HostRuntime) -> Result<(), Fail> {
 }
 
 const STATUSES: &str = "\
-The exit status is 0, or 1 for other words, 2 where the policy is refused, 3 where the recording is, 4 where
-a file can't be read, 5 where the output can't be written, 6 where memory runs out, 7 where a file is too
-large, 9 where it can't listen or accept a connection, and 10 where a thread can't be started. Each status but
-0 has a line on standard error.
+The exit status is 0, or 1 for other words, 2 where a policy is refused or a slice can't be divided so, 3 where
+the recording is refused, 4 where a file can't be read, 5 where the output can't be written, 6 where memory runs
+out, 7 where a file is too large, 9 where it can't listen or accept a connection, and 10 where a thread can't be
+started. Each status but 0 has a line on standard error.
 ";
 
 #[test]
