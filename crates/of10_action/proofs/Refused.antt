@@ -13,18 +13,18 @@ use Rattle.of10_action.specs.Actions.{size_of}
 use Rattle.of10_action.specs.Reading.{head_at, action_of, action_at, actions_at, read_all, IsFirstFault}
 use Rattle.of10_action.proofs.Loop.{first_is, shorter, reads_on}
 
-number_front : (own more : List ℕ) (place n : ℕ) → place + n ≤ length own → number_at (own ++ more) place n ≡ number_at own place n
+pub number_front : (own more : List ℕ) (place n : ℕ) → place + n ≤ length own → number_at (own ++ more) place n ≡ number_at own place n
 number_front own more zero n le = big_from-append n own more (omega arith)
 number_front [] more (suc place) n le = absurd (omega arith)
 number_front (b ∷ own) more (suc place) n le = number_front own more place n (omega arith)
 
-byte_front : (own more : List ℕ) (place : ℕ) → place < length own → slice_index (own ++ more) place ≡ slice_index own place
+pub byte_front : (own more : List ℕ) (place : ℕ) → place < length own → slice_index (own ++ more) place ≡ slice_index own place
 byte_front [] more place lt = absurd (omega arith)
 byte_front (b ∷ own) more zero lt = refl
 byte_front (b ∷ own) more (suc place) lt = byte_front own more place (omega arith)
 
 -- an action lies in its own bytes
-action_front : (kind : ℕ) (own more : List ℕ) → kind ≤ 11 → size_of kind ≤ length own → action_of kind (own ++ more) ≡ action_of kind own
+pub action_front : (kind : ℕ) (own more : List ℕ) → kind ≤ 11 → size_of kind ≤ length own → action_of kind (own ++ more) ≡ action_of kind own
 unfolding action_of
 action_front zero own more le fits = rw (number_front own more 4 2 (omega arith), number_front own more 6 2 (omega arith)) refl
 action_front (suc zero) own more le fits = rw (number_front own more 4 2 (omega arith)) refl
@@ -56,7 +56,7 @@ eighths (suc (suc (suc (suc (suc (suc (suc (suc (suc (suc (suc zero))))))))))) l
 eighths (suc (suc (suc (suc (suc (suc (suc (suc (suc (suc (suc (suc n)))))))))))) le = absurd (omega arith)
 
 -- a known kind, of its length and within the bytes, is the head
-head_from : (bytes : List ℕ) (kind size : ℕ) → number_at bytes 0 2 ≡ kind → number_at bytes 2 2 ≡ size → 8 ≤ size → size ≤ length bytes → kind ≤ 11 → size ≡ size_of kind → head_at bytes ≡ Ok (kind, size)
+pub head_from : (bytes : List ℕ) (kind size : ℕ) → number_at bytes 0 2 ≡ kind → number_at bytes 2 2 ≡ size → 8 ≤ size → size ≤ length bytes → kind ≤ 11 → size ≡ size_of kind → head_at bytes ≡ Ok (kind, size)
 unfolding head_at
 head_from bytes kind size is_kind is_size eight fits le of_kind =
     let parts : size % 8 ≡ 0 = ap (λ n. n % 8) of_kind ∙ eighths kind le in

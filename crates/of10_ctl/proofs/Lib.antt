@@ -3,3 +3,4 @@ pub mod Cutting
 pub mod Standing
 pub mod Answering
 pub mod Whole
+pub mod Patched

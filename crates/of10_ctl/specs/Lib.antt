@@ -1,4 +1,5 @@
 pub mod Heads
 pub mod Frames
 pub mod Kinds
+pub mod Numbers
 pub mod Streams

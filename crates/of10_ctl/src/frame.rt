@@ -1,10 +1,11 @@
-ghost use Rattle.std.specs.Prelude.{◌≡◌, ◌↔◌, ◌<◌, ◌≤◌, ◌^◌, IsTrue, IfOk, drop, length};
+ghost use Rattle.std.specs.Prelude.{◌≡◌, ◌↔◌, ◌+◌, ◌<◌, ◌≤◌, ◌^◌, IsTrue, IfOk, drop, length};
 ghost use Rattle.of10_ctl.specs.Heads.{head_of, length_field};
 ghost use Rattle.of10_ctl.specs.Frames.{IsFrame, is_bad, told_size};
 ghost use Rattle.of10_ctl.specs.Kinds.{IsOf, is_of};
+ghost use Rattle.of10_ctl.specs.Numbers.{with_number};
 
 use crate::head::Head;
-use of10_model::wire::{u16_at, u32_at};
+use of10_model::wire::{set_u16, u16_at, u32_at};
 use std::alloc::{AllocError, Global};
 use std::marker::Model;
 
@@ -117,5 +118,15 @@ impl Frame {
         ensures sized { IsTrue result → length_field self.now ≡ length self.now }
     {
         self.items[0] == 1 && self.items[1] == kind && !self.bad_length()
+    }
+
+    /// Writes a number in two bytes of the body, where its place counts from the front of the header; all other
+    /// bytes stay, so it stays a frame.
+    pub fn set_number(&mut self, at: usize, n: u16)
+        requires body { 8 ≤ at }
+        requires within { at + 2 ≤ length self.old }
+        ensures { self.new ≡ with_number at n self.old }
+    {
+        set_u16(&mut self.items, at, n);
     }
 }

@@ -1,12 +1,11 @@
 -- Actions whose ports are exchanged where they stand are read as the actions with their ports exchanged.
-use Rattle.std.proofs.Common.{◌≡◌, ℕ, zero, suc, ◌≤◌, ◌<◌, ◌^◌, ◌%◌, List, [], ◌∷◌, ◌++◌, map, length, take, drop, slice_index, refl, sym, ap, subst, ◌∙◌, inl, inr, Result, Ok, Err, arith}
-use Rattle.std.proofs.lemmas.Bool.{cases_Bool, le-ltb, eq-eqb, ne_eqb}
+use Rattle.std.proofs.Common.{◌≡◌, ℕ, zero, suc, ◌≤◌, ◌<◌, ◌^◌, List, [], ◌∷◌, ◌++◌, map, length, take, drop, refl, sym, ap, ◌∙◌, inl, inr, Result, Ok, Err, arith}
+use Rattle.std.proofs.lemmas.Bool.{cases_Bool}
 use Rattle.std.proofs.lemmas.List.{length-append, length-take-le, length-drop, take-append-drop, drop_at, nil_from_length}
 use Rattle.of10_model.specs.Normal.{number_at}
 use Rattle.of10_model.specs.Padding.{AlikeBut}
 use Rattle.of10_model.specs.Results.{◌>>=◌}
 use Rattle.of10_model.proofs.Padding.{number_before, number_behind}
-use Rattle.of10_model.proofs.Ranges.{bytes-drop, bytes-take, number_at-lt}
 use Rattle.of10_model.proofs.Results.{ok_is, bind_ok}
 use Rattle.of10_action.specs.declared.action.Action.{Action}
 use Rattle.of10_action.specs.declared.fault.WireFault.{WireFault}
@@ -16,47 +15,9 @@ use Rattle.of10_action.proofs.Loop.{IsHead, head_is, shorter, reads_on}
 use Rattle.flowspace.specs.Swaps.{Pairs}
 use Rattle.port_turns.specs.Turned.{turned_action}
 use Rattle.port_turns.specs.Turns.{written, turn_port, names_port, turn_action, turn_first, behind_first, turn_actions}
-use Rattle.port_turns.proofs.Patched.{written_small, with_length, with_alike, with_read, number_front, byte_front, number_take}
-
--- ---- one action lies in its own bytes
-
-action_front : (kind : ℕ) (own more : List ℕ) → kind ≤ 11 → size_of kind ≤ length own → action_of kind (own ++ more) ≡ action_of kind own
-unfolding action_of
-action_front zero own more le fits = rw (number_front own more 4 2 (omega arith), number_front own more 6 2 (omega arith)) refl
-action_front (suc zero) own more le fits = rw (number_front own more 4 2 (omega arith)) refl
-action_front (suc (suc zero)) own more le fits = rw (byte_front own more 4 (omega arith)) refl
-action_front (suc (suc (suc zero))) own more le fits = refl
-action_front (suc (suc (suc (suc zero)))) own more le fits = rw (number_front own more 4 6 (omega arith)) refl
-action_front (suc (suc (suc (suc (suc zero))))) own more le fits = rw (number_front own more 4 6 (omega arith)) refl
-action_front (suc (suc (suc (suc (suc (suc zero)))))) own more le fits = rw (number_front own more 4 4 (omega arith)) refl
-action_front (suc (suc (suc (suc (suc (suc (suc zero))))))) own more le fits = rw (number_front own more 4 4 (omega arith)) refl
-action_front (suc (suc (suc (suc (suc (suc (suc (suc zero)))))))) own more le fits = rw (byte_front own more 4 (omega arith)) refl
-action_front (suc (suc (suc (suc (suc (suc (suc (suc (suc zero))))))))) own more le fits = rw (number_front own more 4 2 (omega arith)) refl
-action_front (suc (suc (suc (suc (suc (suc (suc (suc (suc (suc zero)))))))))) own more le fits = rw (number_front own more 4 2 (omega arith)) refl
-action_front (suc (suc (suc (suc (suc (suc (suc (suc (suc (suc (suc zero))))))))))) own more le fits = rw (number_front own more 4 2 (omega arith), number_front own more 12 4 (omega arith)) refl
-action_front (suc (suc (suc (suc (suc (suc (suc (suc (suc (suc (suc (suc n)))))))))))) own more le fits = absurd (omega arith)
-
-eighths : (kind : ℕ) → kind ≤ 11 → size_of kind % 8 ≡ 0
-eighths zero le = refl
-eighths (suc zero) le = refl
-eighths (suc (suc zero)) le = refl
-eighths (suc (suc (suc zero))) le = refl
-eighths (suc (suc (suc (suc zero)))) le = refl
-eighths (suc (suc (suc (suc (suc zero))))) le = refl
-eighths (suc (suc (suc (suc (suc (suc zero)))))) le = refl
-eighths (suc (suc (suc (suc (suc (suc (suc zero))))))) le = refl
-eighths (suc (suc (suc (suc (suc (suc (suc (suc zero)))))))) le = refl
-eighths (suc (suc (suc (suc (suc (suc (suc (suc (suc zero))))))))) le = refl
-eighths (suc (suc (suc (suc (suc (suc (suc (suc (suc (suc zero)))))))))) le = refl
-eighths (suc (suc (suc (suc (suc (suc (suc (suc (suc (suc (suc zero))))))))))) le = refl
-eighths (suc (suc (suc (suc (suc (suc (suc (suc (suc (suc (suc (suc n)))))))))))) le = absurd (omega arith)
-
--- a known kind, of its length and within the bytes, is the head
-head_from : (bytes : List ℕ) (kind size : ℕ) → number_at bytes 0 2 ≡ kind → number_at bytes 2 2 ≡ size → 8 ≤ size → size ≤ length bytes → kind ≤ 11 → size ≡ size_of kind → head_at bytes ≡ Ok (kind, size)
-unfolding head_at
-head_from bytes kind size is_kind is_size eight fits le of_kind =
-    let parts : size % 8 ≡ 0 = ap (λ n. n % 8) of_kind ∙ eighths kind le in
-    rw (is_kind, is_size, le-ltb (length bytes) 4 (omega arith), le-ltb (length bytes) 8 (omega arith), le-ltb size 8 eight, parts, le-ltb (length bytes) size fits, ne_eqb kind 65535 (λ e. omega (arith, e)), le-ltb 11 kind le, eq-eqb size (size_of kind) of_kind) refl
+use Rattle.of10_action.proofs.Refused.{number_front, action_front, head_from}
+use Rattle.of10_ctl.proofs.Patched.{with_length, with_alike, with_read}
+use Rattle.port_turns.proofs.Patched.{written_small, number_take}
 
 -- ---- one action is turned
 

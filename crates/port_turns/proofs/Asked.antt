@@ -5,7 +5,6 @@ use Rattle.std.proofs.lemmas.List.{get_or-drop, drop-drop, take-take}
 use Rattle.of10_model.specs.Normal.{number_at, match_at, Norm}
 use Rattle.of10_model.specs.Padding.{AlikeBut}
 use Rattle.of10_model.proofs.Padding.{piece_before, rest_behind, byte_before, number_behind}
-use Rattle.of10_model.proofs.Ranges.{number_at-lt}
 use Rattle.of10_model.proofs.Results.{ok_is, passed, met}
 use Rattle.of10_action.specs.declared.fault.WireFault.TheVariants.{Length, StatKind, StatVendor}
 use Rattle.of10_message.specs.declared.queues.QueuesQuestion.{QueuesQuestion}
@@ -16,7 +15,8 @@ use Rattle.of10_stats.specs.Requests.{body_size, request_of, read_request}
 use Rattle.flowspace.specs.Swaps.{Pairs}
 use Rattle.port_turns.specs.Turned.{turned_pattern}
 use Rattle.port_turns.specs.Turns.{written, turn_port, turn_match}
-use Rattle.port_turns.proofs.Patched.{written_small, with_alike, with_read, number_take}
+use Rattle.of10_ctl.proofs.Patched.{with_alike, with_read}
+use Rattle.port_turns.proofs.Patched.{written_small, number_take}
 use Rattle.port_turns.proofs.Matches.{turn_match_alike, turn_match_read}
 use Rattle.port_turns.specs.Readings.{turn_entries, turn_request, turned_request, turned_queues}
 

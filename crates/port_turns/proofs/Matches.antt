@@ -1,6 +1,6 @@
 -- A match whose in_port is exchanged where it stands is read as the match with that in_port exchanged.
 use Rattle.std.proofs.Common.{◌≡◌, ℕ, ◌+◌, ◌-◌, min, ◌≤◌, ◌<◌, ◌^◌, true, false, List, length, take, drop, refl, sym, ap, ◌∙◌, inl, inr, Option, Some, None, arith}
-use Rattle.std.specs.Prelude.{option_map, slice_index}
+use Rattle.std.specs.Prelude.{option_map}
 use Rattle.std.proofs.lemmas.Bool.{cases_Bool}
 use Rattle.std.proofs.lemmas.List.{length-take, length-drop, take-take, drop-drop, drop-take}
 use Rattle.byteorder.specs.Endian.{big_number}
@@ -8,11 +8,12 @@ use Rattle.of10_model.specs.declared.pattern.Pattern.{Pattern}
 use Rattle.of10_model.specs.Normal.{number_at, bit, is_given, unless_freed, spelled, applied, match_at, IsBelow, IsNormal}
 use Rattle.of10_model.specs.Padding.{AlikeBut}
 use Rattle.of10_model.proofs.Padding.{piece_before, rest_behind, number_before, number_behind}
-use Rattle.of10_model.proofs.Ranges.{number_at-lt}
 use Rattle.flowspace.specs.Swaps.{Pairs}
 use Rattle.port_turns.specs.Turned.{turned_pattern}
-use Rattle.port_turns.specs.Turns.{written, with_number, turn_match}
-use Rattle.port_turns.proofs.Patched.{written_small, with_alike, with_read, number_take}
+use Rattle.port_turns.specs.Turns.{written, turn_match}
+use Rattle.of10_ctl.specs.Numbers.{with_number}
+use Rattle.of10_ctl.proofs.Patched.{with_alike, with_read}
+use Rattle.port_turns.proofs.Patched.{written_small, number_take}
 
 -- the 40 bytes of a match, of which two differ where the whole differs
 pub within_match : (at : ℕ) (a b : List ℕ) → AlikeBut (at + 4) (at + 4 + 2) a b → AlikeBut 4 6 (take 40 (drop at a)) (take 40 (drop at b))

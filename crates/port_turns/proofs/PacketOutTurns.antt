@@ -1,12 +1,10 @@
 -- A packet-out whose bytes are turned is read as the packet-out, turned.
 use Rattle.std.proofs.Common.{◌≡◌, ℕ, ◌+◌, ◌≤◌, ◌<◌, ◌^◌, nat_lt, if◌then◌else◌, List, ◌++◌, map, length, take, drop, refl, sym, ap, ◌∙◌, Ok, Err, arith}
-use Rattle.std.specs.List.{All}
 use Rattle.std.proofs.lemmas.Bool.{le-ltb, ltb-false}
 use Rattle.std.proofs.lemmas.List.{length-append, length-take-le, length-drop, take-take, take_at, drop_at, drop-drop, take-append-le}
 use Rattle.of10_model.specs.Normal.{number_at}
 use Rattle.of10_model.specs.Results.{◌>>=◌}
 use Rattle.of10_model.proofs.Padding.{piece_before, number_before, number_behind}
-use Rattle.of10_model.proofs.Ranges.{bytes-drop, bytes-take, number_at-lt}
 use Rattle.of10_model.proofs.Results.{ok_is, passed, bind_ok}
 use Rattle.of10_action.specs.declared.action.Action.{Action}
 use Rattle.of10_action.specs.declared.fault.WireFault.TheVariants.{Length}
@@ -16,7 +14,9 @@ use Rattle.of10_flow.specs.PacketOuts.{read_packet_out}
 use Rattle.flowspace.specs.Swaps.{Pairs}
 use Rattle.port_turns.specs.Turned.{turned_action, turned_packet_out}
 use Rattle.port_turns.specs.Turns.{written, turn_port, turn_list, turn_behind, turn_packet_out}
-use Rattle.port_turns.proofs.Patched.{written_small, with_alike, with_read, number_front, number_take}
+use Rattle.of10_action.proofs.Refused.{number_front}
+use Rattle.of10_ctl.proofs.Patched.{with_alike, with_read}
+use Rattle.port_turns.proofs.Patched.{written_small, number_take}
 use Rattle.port_turns.proofs.ActionTurns.{turn_actions_length, actions_turned}
 
 -- the fields of a packet-out at their places, with these actions

@@ -1,6 +1,5 @@
 -- A message that is turned is read as what was read, turned.
-use Rattle.std.proofs.Common.{◌≡◌, ℕ, ◌<◌, List, [], ◌∷◌, length, take, refl, sym, ap, ◌∙◌, Result, Ok, Err}
-use Rattle.std.specs.List.{All}
+use Rattle.std.proofs.Common.{◌≡◌, ℕ, List, [], ◌∷◌, length, take, refl, sym, ap, ◌∙◌, Result, Ok, Err}
 use Rattle.of10_action.specs.declared.fault.WireFault.{WireFault}
 use Rattle.of10_message.specs.declared.queues.QueuesQuestion.{QueuesQuestion}
 use Rattle.of10_message.specs.Queues.{read_queues_request}

@@ -1,5 +1,5 @@
 -- What was read of a slice's message, with each port number exchanged (OpenFlow 1.0.0, sections 5.2.3, 5.2.4, 5.3.3 and 5.3.6; that they are exchanged is this proxy's own rule).
-use Rattle.std.specs.Prelude.{ℕ, List, [], ◌∷◌, map, option_map}
+use Rattle.std.specs.Prelude.{ℕ, [], ◌∷◌, map, option_map}
 use Rattle.of10_model.specs.declared.pattern.Pattern.{Pattern}
 use Rattle.of10_action.specs.declared.action.Action.{Action}
 use Rattle.of10_action.specs.declared.action.Action.TheVariants.{Output, Enqueue}

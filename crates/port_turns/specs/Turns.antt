@@ -1,14 +1,10 @@
 -- The bytes of a slice's message with its port numbers exchanged where they stand: all other bytes stay (OpenFlow 1.0.0, sections 5.2.3, 5.2.4, 5.3.3 and 5.3.6; that they are exchanged is this proxy's own rule).
 use Rattle.std.specs.Prelude.{ℕ, zero, suc, ◌+◌, ◌%◌, ◌^◌, ◌==◌, ◌||◌, Bool, if◌then◌else◌, List, [], ◌++◌, length, take, drop, Result, Ok, Err}
-use Rattle.byteorder.specs.Endian.{big_bytes}
 use Rattle.of10_model.specs.Normal.{number_at, bit}
 use Rattle.of10_action.specs.declared.fault.WireFault.{WireFault}
 use Rattle.of10_action.specs.Reading.{head_at}
+use Rattle.of10_ctl.specs.Numbers.{with_number}
 use Rattle.flowspace.specs.Swaps.{Pairs, swapped}
-
--- these bytes with a number of two bytes at a place
-abbrev pub with_number : ℕ → ℕ → List ℕ → List ℕ
-with_number at n bytes = take at bytes ++ (big_bytes 2 n ++ drop (at + 2) bytes)
 
 -- the number that is written for a port: it has two bytes, as each port number has (section 5.2.1)
 abbrev pub written : Pairs → ℕ → ℕ
