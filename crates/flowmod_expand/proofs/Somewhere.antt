@@ -1,5 +1,5 @@
 -- Facts of some element of a list.
-use Rattle.std.proofs.Common.{◌≡◌, ℕ, zero, suc, ◌+◌, ◌<◌, ◌≤◌, ◌⊎◌, inl, inr, Bool, false, List, [], ◌∷◌, length, get_or, map, filter, filter_map, Any, All, Option, Some, None, refl, sym, subst, arith}
+use Rattle.std.proofs.Common.{◌≡◌, ℕ, zero, suc, ◌+◌, ◌<◌, ◌≤◌, ◌⊎◌, inl, inr, Bool, true, false, List, [], ◌∷◌, length, get_or, map, filter, filter_map, Any, All, Option, Some, None, refl, sym, subst, arith}
 use Rattle.std.specs.List.{cons_option}
 use Rattle.std.proofs.lemmas.List.Elements.{All-nil, All-cons, All-head, All-tail}
 use Rattle.std.proofs.lemmas.Bool.{cases_Bool, cond-true, cond-false}
@@ -21,20 +21,47 @@ module _ {A : Type 0} (P : A → Type 0) where
   pub Any-nil : Any P [] → ⊥
   Any-nil some = let lt = some.2 in omega arith
 
--- some element that was kept is one of all
-pub Any-filter : {A : Type 0} (P : A → Type 0) (p : A → Bool) (xs : List A) → Any P (filter p xs) → Any P xs
-Any-filter P p [] some = some
-Any-filter P p (x ∷ xs) some =
+-- what follows from a fact of an element holds of some element too
+pub Any-weaker : {A : Type 0} (P Q : A → Type 0) (xs : List A) → ((x : A) → P x → Q x) → Any P xs → Any Q xs
+Any-weaker P Q xs weaker some = (some.0, some.1, some.2, some.3, weaker some.1 some.4)
+
+-- some element that was kept is one that passes
+pub Any-kept : {A : Type 0} (P : A → Type 0) (p : A → Bool) (xs : List A) → Any P (filter p xs) → Any (λ x. (p x ≡ true) × P x) xs
+Any-kept P p [] some = absurd (Any-nil P some)
+Any-kept {A} P p (x ∷ xs) some =
+    let Q = λ (a : A). (p a ≡ true) × P a in
     elim (cases_Bool (p x)) [
       | inl passes ↦
           elim (Any-cases P x (filter p xs) (subst (Any P) (cond-true (p x) (x ∷ filter p xs) (filter p xs) passes) some)) [
-            | inl here ↦ Any-first P x xs here
-            | inr later ↦ Any-later P x xs (Any-filter P p xs later)
+            | inl here ↦ Any-first Q x xs (passes, here)
+            | inr later ↦ Any-later Q x xs (Any-kept P p xs later)
           ]
-      | inr fails ↦ Any-later P x xs (Any-filter P p xs (subst (Any P) (cond-false (p x) (x ∷ filter p xs) (filter p xs) fails) some))
+      | inr fails ↦ Any-later Q x xs (Any-kept P p xs (subst (Any P) (cond-false (p x) (x ∷ filter p xs) (filter p xs) fails) some))
     ]
 
--- and where all such elements pass, some is kept
+pub Any-filter : {A : Type 0} (P : A → Type 0) (p : A → Bool) (xs : List A) → Any P (filter p xs) → Any P xs
+Any-filter P p xs some = Any-weaker (λ x. (p x ≡ true) × P x) P xs (λ x both. both.1) (Any-kept P p xs some)
+
+-- and one that passes is kept
+kept_first : {A : Type 0} (P : A → Type 0) (p : A → Bool) (x : A) (xs : List A) → p x ≡ true → P x → Any P (filter p (x ∷ xs))
+kept_first P p x xs passes here = subst (Any P) (sym (cond-true (p x) (x ∷ filter p xs) (filter p xs) passes)) (Any-first P x (filter p xs) here)
+
+kept_later : {A : Type 0} (P : A → Type 0) (p : A → Bool) (x : A) (xs : List A) → Any P (filter p xs) → Any P (filter p (x ∷ xs))
+kept_later P p x xs some =
+    elim (cases_Bool (p x)) [
+      | inl passes ↦ subst (Any P) (sym (cond-true (p x) (x ∷ filter p xs) (filter p xs) passes)) (Any-later P x (filter p xs) some)
+      | inr fails ↦ subst (Any P) (sym (cond-false (p x) (x ∷ filter p xs) (filter p xs) fails)) some
+    ]
+
+pub kept-Any : {A : Type 0} (P : A → Type 0) (p : A → Bool) (xs : List A) → Any (λ x. (p x ≡ true) × P x) xs → Any P (filter p xs)
+kept-Any P p [] some = absurd (Any-nil (λ a. (p a ≡ true) × P a) some)
+kept-Any P p (x ∷ xs) some =
+    elim (Any-cases (λ a. (p a ≡ true) × P a) x xs some) [
+      | inl here ↦ kept_first P p x xs here.0 here.1
+      | inr later ↦ kept_later P p x xs (kept-Any P p xs later)
+    ]
+
+-- where some element has a fact, one that has it is kept, or one that has it fails
 pub filter-Any : {A : Type 0} (P : A → Type 0) (p : A → Bool) (xs : List A) → Any P xs → Any P (filter p xs) ⊎ ((x : A) × P x × (p x ≡ false))
 filter-Any P p [] some = absurd (Any-nil P some)
 filter-Any P p (x ∷ xs) some =

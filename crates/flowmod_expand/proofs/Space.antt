@@ -21,35 +21,21 @@ use Rattle.flowspace.specs.Owners.{Writes, HasWriteRule, Owns}
 use Rattle.flowspace.proofs.Owning.{Writes-iff}
 use Rattle.flowspace.proofs.Refusing.{is_value-Some, Some-is_value}
 use Rattle.flowmod_expand.specs.Pieces.{writes_of, pieces_of}
-use Rattle.flowmod_expand.proofs.Somewhere.{Any-first, Any-later, Any-cases, Any-nil, filter-Any, Any-map, map-Any, GivesOne, Any-filter_map, filter_map-Any, All-filter_map, filter_map_length}
+use Rattle.flowmod_expand.proofs.Somewhere.{Any-first, Any-later, Any-cases, Any-nil, Any-weaker, Any-kept, kept-Any, Any-map, map-Any, GivesOne, Any-filter_map, filter_map-Any, All-filter_map, filter_map_length}
 use Rattle.flowmod_expand.proofs.Repeats.{distinct, All-without_repeats, Any-without_repeats, without_repeats-Any, without_repeats_length}
 
 -- ---- the rules that a slice writes
 
 -- one of their matches has a header exactly where a write rule has it
-Any-weaker : {A : Type 0} (P Q : A → Type 0) (xs : List A) → ((x : A) → P x → Q x) → Any P xs → Any Q xs
-Any-weaker P Q xs weaker some = (some.0, some.1, some.2, some.3, weaker some.1 some.4)
-
 written_here : (slot : ℕ) (P : Pattern → Type 0) (rules : List Rule) → Any (λ r. P r.pattern) (filter (is_written_by slot) rules) → Any (λ r. (r.writer ≡ Some slot) × P r.pattern) rules
-written_here slot P [] some = absurd (Any-nil (λ r. P r.pattern) some)
-written_here slot P (r ∷ rules) some =
-    let Q = λ (x : Rule). (x.writer ≡ Some slot) × P x.pattern in
-    elim (cases_Bool (is_written_by slot r)) [
-      | inl is ↦
-          elim (Any-cases (λ x. P x.pattern) r (filter (is_written_by slot) rules) (subst (Any (λ x. P x.pattern)) (cond-true (is_written_by slot r) (r ∷ filter (is_written_by slot) rules) (filter (is_written_by slot) rules) is) some)) [
-            | inl here ↦ Any-first Q r rules (is_value-Some slot r.writer is, here)
-            | inr later ↦ Any-later Q r rules (written_here slot P rules later)
-          ]
-      | inr not ↦ Any-later Q r rules (written_here slot P rules (subst (Any (λ x. P x.pattern)) (cond-false (is_written_by slot r) (r ∷ filter (is_written_by slot) rules) (filter (is_written_by slot) rules) not) some))
-    ]
+written_here slot P rules some =
+    Any-weaker (λ r. (is_written_by slot r ≡ true) × P r.pattern) (λ r. (r.writer ≡ Some slot) × P r.pattern) rules (λ r both. (is_value-Some slot r.writer both.0, both.1))
+    (Any-kept (λ r. P r.pattern) (is_written_by slot) rules some)
 
 here_written : (slot : ℕ) (P : Pattern → Type 0) (rules : List Rule) → Any (λ r. (r.writer ≡ Some slot) × P r.pattern) rules → Any (λ r. P r.pattern) (filter (is_written_by slot) rules)
 here_written slot P rules some =
-    let Q = λ (x : Rule). (x.writer ≡ Some slot) × P x.pattern in
-    elim (filter-Any Q (is_written_by slot) rules some) [
-      | inl kept ↦ Any-weaker Q (λ x. P x.pattern) (filter (is_written_by slot) rules) (λ x q. q.1) kept
-      | inr dropped ↦ let is = Some-is_value slot dropped.0.writer dropped.1.0 in absurd (let clash : true ≡ false = sym is ∙ dropped.2 in cc)
-    ]
+    kept-Any (λ r. P r.pattern) (is_written_by slot) rules
+    (Any-weaker (λ r. (r.writer ≡ Some slot) × P r.pattern) (λ r. (is_written_by slot r ≡ true) × P r.pattern) rules (λ r both. (Some-is_value slot r.writer both.0, both.1)) some)
 
 pub Any-writes_of : (rules : List Rule) (slot : ℕ) (P : Pattern → Type 0) → Any P (writes_of rules slot) ↔ Any (λ r. (r.writer ≡ Some slot) × P r.pattern) rules
 Any-writes_of rules slot P = (

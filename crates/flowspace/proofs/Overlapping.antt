@@ -7,6 +7,7 @@ use Rattle.std.proofs.lemmas.List.Elements.{All-cons, All-head, All-tail}
 use Rattle.std.proofs.lemmas.List.Kept.{AllPairs-cons}
 use Rattle.std.proofs.lemmas.List.Sorted.{All-permutation, Contains-permutation}
 use Rattle.of10_model.specs.Normal.{IsInRange, IsNormal}
+use Rattle.of10_model.proofs.Pairs.{AllPairs-head, AllPairs-tail}
 use Rattle.flowspace.specs.declared.slices.Slice.{Slice}
 use Rattle.flowspace.specs.declared.rules.Rule.{Rule}
 use Rattle.flowspace.specs.declared.order.FiledRule.{FiledRule}
@@ -29,12 +30,6 @@ use Rattle.flowspace.proofs.Refusing.{Refusal-is_refused, is_refused-ShareHeader
 -- the first comes before the second in rule order
 abbrev pub StandsBefore : FiledRule → FiledRule → Type 0
 StandsBefore a b = (b.rule.priority < a.rule.priority) ⊎ ((b.rule.priority ≡ a.rule.priority) × (a.place < b.place))
-
-AllPairs-head : {A : Type 0} (R : A → A → Type 0) (x : A) (xs : List A) → AllPairs R (x ∷ xs) → All (R x) xs
-AllPairs-head R x xs h = λ k d lt. h 0 (suc k) d (omega arith) (omega arith)
-
-AllPairs-tail : {A : Type 0} (R : A → A → Type 0) (x : A) (xs : List A) → AllPairs R (x ∷ xs) → AllPairs R xs
-AllPairs-tail R x xs h = λ i j d lt long. h (suc i) (suc j) d (omega arith) (omega arith)
 
 no_higher : (a b : FiledRule) → StandsBefore a b → b.rule.priority ≤ a.rule.priority
 no_higher a b (inl lt) = omega arith

@@ -4,18 +4,10 @@ use Rattle.std.specs.List.{flat_map, cons_option}
 use Rattle.std.proofs.lemmas.Bool.{cases_Bool, cond-true, cond-false}
 use Rattle.std.proofs.lemmas.List.Elements.{All-nil, All-head, All-tail, All-append}
 use Rattle.std.proofs.lemmas.List.Kept.{AllPairs-cons}
+use Rattle.of10_model.proofs.Pairs.{AllPairs-nil, AllPairs-head, AllPairs-tail}
 use Rattle.flowmod_expand.proofs.Somewhere.{Any-first, Any-later, Any-cases, Any-nil, All-filter_map}
 
 -- ---- each pair
-
-pub AllPairs-head : {A : Type 0} (R : A → A → Type 0) (x : A) (xs : List A) → AllPairs R (x ∷ xs) → All (R x) xs
-AllPairs-head R x xs h = λ k d lt. h 0 (suc k) d (omega arith) (omega arith)
-
-pub AllPairs-tail : {A : Type 0} (R : A → A → Type 0) (x : A) (xs : List A) → AllPairs R (x ∷ xs) → AllPairs R xs
-AllPairs-tail R x xs h = λ i j d lt long. h (suc i) (suc j) d (omega arith) (omega arith)
-
-pub AllPairs-nil : {A : Type 0} (R : A → A → Type 0) → AllPairs R []
-AllPairs-nil R = λ i j d lt long. absurd (omega arith)
 
 AllPairs-append : {A : Type 0} (R : A → A → Type 0) (xs ys : List A) → AllPairs R xs → AllPairs R ys → All (λ x. All (R x) ys) xs → AllPairs R (xs ++ ys)
 AllPairs-append R [] ys pairs others across = others
@@ -94,38 +86,3 @@ flat_map-Any P f (x ∷ xs) some =
       | inl here ↦ append-left P (f x) (flat_map f xs) here
       | inr later ↦ append-right P (f x) (flat_map f xs) (flat_map-Any P f xs later)
     ]
-
--- some element that was kept is one that passes
-pub Any-kept : {A : Type 0} (P : A → Type 0) (p : A → Bool) (xs : List A) → Any P (filter p xs) → Any (λ x. (p x ≡ true) × P x) xs
-Any-kept P p [] some = absurd (Any-nil P some)
-Any-kept {A} P p (x ∷ xs) some =
-    let Q = λ (a : A). (p a ≡ true) × P a in
-    elim (cases_Bool (p x)) [
-      | inl passes ↦
-          elim (Any-cases P x (filter p xs) (subst (Any P) (cond-true (p x) (x ∷ filter p xs) (filter p xs) passes) some)) [
-            | inl here ↦ Any-first Q x xs (passes, here)
-            | inr later ↦ Any-later Q x xs (Any-kept P p xs later)
-          ]
-      | inr fails ↦ Any-later Q x xs (Any-kept P p xs (subst (Any P) (cond-false (p x) (x ∷ filter p xs) (filter p xs) fails) some))
-    ]
-
-kept_first : {A : Type 0} (P : A → Type 0) (p : A → Bool) (x : A) (xs : List A) → p x ≡ true → P x → Any P (filter p (x ∷ xs))
-kept_first P p x xs passes here = subst (Any P) (sym (cond-true (p x) (x ∷ filter p xs) (filter p xs) passes)) (Any-first P x (filter p xs) here)
-
-kept_later : {A : Type 0} (P : A → Type 0) (p : A → Bool) (x : A) (xs : List A) → Any P (filter p xs) → Any P (filter p (x ∷ xs))
-kept_later P p x xs some =
-    elim (cases_Bool (p x)) [
-      | inl passes ↦ subst (Any P) (sym (cond-true (p x) (x ∷ filter p xs) (filter p xs) passes)) (Any-later P x (filter p xs) some)
-      | inr fails ↦ subst (Any P) (sym (cond-false (p x) (x ∷ filter p xs) (filter p xs) fails)) some
-    ]
-
-pub kept-Any : {A : Type 0} (P : A → Type 0) (p : A → Bool) (xs : List A) → Any (λ x. (p x ≡ true) × P x) xs → Any P (filter p xs)
-kept-Any P p [] some = absurd (Any-nil (λ a. (p a ≡ true) × P a) some)
-kept-Any P p (x ∷ xs) some =
-    elim (Any-cases (λ a. (p a ≡ true) × P a) x xs some) [
-      | inl here ↦ kept_first P p x xs here.0 here.1
-      | inr later ↦ kept_later P p x xs (kept-Any P p xs later)
-    ]
-
-pub Any-weaker : {A : Type 0} (P Q : A → Type 0) (xs : List A) → ((x : A) → P x → Q x) → Any P xs → Any Q xs
-Any-weaker P Q xs weaker some = (some.0, some.1, some.2, some.3, weaker some.1 some.4)

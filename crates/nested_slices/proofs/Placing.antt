@@ -3,6 +3,7 @@ use Rattle.std.proofs.Common.{◌≡◌, ℕ, ◌≤◌, List, [], ◌∷◌, le
 use Rattle.std.proofs.lemmas.List.Elements.{All-nil, All-cons, All-head, All-tail}
 use Rattle.std.proofs.lemmas.List.Kept.{AllPairs-cons}
 use Rattle.std.proofs.lemmas.List.Sorted.{IsPermutation-refl, All-permutation}
+use Rattle.of10_model.proofs.Pairs.{AllPairs-nil, AllPairs-head, AllPairs-tail}
 use Rattle.flowspace.specs.declared.rules.Rule.{Rule}
 use Rattle.flowspace.specs.Rules.{Yields}
 use Rattle.flowspace.specs.Order.{in_order, HasNoLower, IsAccepted}
@@ -11,7 +12,6 @@ use Rattle.flowspace.proofs.Ordering.{in_order-from_IsRuleOrder, IsPermutation-i
 use Rattle.flowmod_expand.proofs.Somewhere.{Any-first, Any-later, Any-cases, Any-nil}
 use Rattle.nested_slices.specs.Flat.{numbered, by_place, divided, division_of, flat}
 use Rattle.nested_slices.specs.Space.{HasWriter, IsDivisible}
-use Rattle.nested_slices.proofs.Lists.{AllPairs-head, AllPairs-tail, AllPairs-nil}
 use Rattle.nested_slices.proofs.Yielding.{within_numbered, shares, divided_yield}
 
 -- ---- rule order

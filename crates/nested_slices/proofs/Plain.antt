@@ -1,66 +1,14 @@
 -- The flat rules are plain and normal.
-use Rattle.std.proofs.Common.{◌≡◌, ℕ, ◌⊎◌, inl, inr, ◌==◌, ◌||◌, false, leb, IsTrue, IsSome, IfSome, if◌then◌else◌, Bool, true, Option, Some, None, refl, sym, subst, ◌∙◌, eqb-true}
-use Rattle.std.proofs.lemmas.Bool.{true≢false, and_parts, and_from}
-use Rattle.std.proofs.lemmas.Option.{same_Some, cond_some}
-use Rattle.of10_model.specs.declared.pattern.Prefix.{Prefix}
+use Rattle.std.proofs.Common.{◌≡◌, inl, inr, IsTrue, IsSome, IfSome, Bool, Option, Some, refl, sym, subst}
 use Rattle.of10_model.specs.declared.pattern.Pattern.{Pattern}
-use Rattle.of10_model.specs.Normal.{is_value, has_vlan, has_network, has_service, has_ports}
-use Rattle.of10_model.specs.Pattern.{begins_as}
-use Rattle.of10_model.specs.Meet.{both, both_prefix, meet_of}
+use Rattle.of10_model.specs.Normal.{has_vlan, has_network, has_service, has_ports}
+use Rattle.of10_model.specs.Meet.{meet_of}
 use Rattle.of10_model.proofs.Meeting.{meet_fields}
+use Rattle.of10_model.proofs.MeetNormal.{OneOf, from_either, prefix_from_either, holds_too, passes, ports_too}
 use Rattle.flowspace.specs.declared.rules.Rule.{Rule}
 use Rattle.flowspace.specs.Rules.{IsInPort, IsVlan, IsPlainRule}
 
--- ---- a constraint of the meet is one of the two
-
--- a value is one of two
-abbrev OneOf : {C : Type 0} → C → C → C → Type 0
-OneOf x c d = (x ≡ c) ⊎ (x ≡ d)
-
--- the meet has each of the two constraints that isn't free
-keeps : (c d r : Option ℕ) → both c d ≡ Some r → OneOf c None r × OneOf d None r
-keeps None d r e = (inl refl, inr (same_Some d r e))
-keeps (Some v) None r e = (inr (same_Some (Some v) r e), inl refl)
-keeps (Some v) (Some w) r e =
-    let parts = cond_some (v == w) (Some v) r e in
-    let same = eqb-true v w parts.0 in
-    (inr parts.1, inr (rw same at parts.1))
-
-from_either : (c d r : Option ℕ) → both c d ≡ Some r → OneOf r c d
-from_either None d r e = inr (sym (same_Some d r e))
-from_either (Some v) d r e = elim (keeps (Some v) d r e).0 [
-  | inl n ↦ absurd cc
-  | inr k ↦ inl (sym k)
-]
-
-prefix_from_case : (p q : Prefix) (r : Option Prefix) (t : Bool)
-    → (if t then (if begins_as p q.value then Some (Some q) else None) else (if begins_as q p.value then Some (Some p) else None)) ≡ Some r
-    → OneOf r (Some p) (Some q)
-prefix_from_case p q r true e = inr (sym (cond_some (begins_as p q.value) (Some q) r e).1)
-prefix_from_case p q r false e = inl (sym (cond_some (begins_as q p.value) (Some p) r e).1)
-
-prefix_from_either : (c d r : Option Prefix) → both_prefix c d ≡ Some r → OneOf r c d
-prefix_from_either None d r e = inr (sym (same_Some d r e))
-prefix_from_either (Some p) None r e = inl (sym (same_Some (Some p) r e))
-prefix_from_either (Some p) (Some q) r e = prefix_from_case p q r (leb p.bits q.bits) e
-
--- what holds of both constraints holds of the meet's
-holds_too : {C : Type 0} (P : C → Type 0) (c d r : C) → OneOf r c d → P c → P d → P r
-holds_too P c d r (inl e) p q = rw e p
-holds_too P c d r (inr e) p q = rw e q
-
--- a test that no free constraint passes is passed by the meet's constraint where one of the two passes it
-passes_as : (t : Option ℕ → Bool) (c r : Option ℕ) → t None ≡ false → OneOf c None r → IsTrue (t c) → IsTrue (t r)
-passes_as t c r n (inl e) h = absurd (true≢false (sym (rw e at h) ∙ n))
-passes_as t c r n (inr e) h = rw e at h
-
--- of a field of the match that is one of the two
-passes : (t : Option ℕ → Bool) (f : Pattern → Option ℕ) (a b r x : Pattern) → t None ≡ false → both (f a) (f b) ≡ Some (f r) → OneOf x a b → IsTrue (t (f x)) → IsTrue (t (f r))
-passes t f a b r x n e (inl s) h = passes_as t (f a) (f r) n (keeps (f a) (f b) (f r) e).0 (rw s at h)
-passes t f a b r x n e (inr s) h = passes_as t (f b) (f r) n (keeps (f a) (f b) (f r) e).1 (rw s at h)
-
--- ---- what a field needs
-
+-- what a field needs
 abbrev Needs : {C : Type 0} → (Pattern → Option C) → (Pattern → Bool) → Pattern → Type 0
 Needs f needed m = IsSome (f m) → IsTrue (needed m)
 
@@ -72,14 +20,6 @@ needs_too : {C : Type 0} (f : Pattern → Option C) (needed : Pattern → Bool) 
     → Needs f needed a → Needs f needed b → Needs f needed r
 needs_too f needed a b r (inl e) there na nb = given_as f needed r a e (there a (inl refl)) na
 needs_too f needed a b r (inr e) there na nb = given_as f needed r b e (there b (inr refl)) nb
-
-ports_too : (a b r x : Pattern) → meet_of a b ≡ Some r → OneOf x a b → IsTrue (has_ports x.dl_type x.nw_proto) → IsTrue (has_ports r.dl_type r.nw_proto)
-ports_too a b r x e s h =
-    let fields = meet_fields a b r e in
-    let parts = and_parts (is_value 0x0800 x.dl_type) (is_value 1 x.nw_proto || is_value 6 x.nw_proto || is_value 17 x.nw_proto) h in
-    and_from (is_value 0x0800 r.dl_type) (is_value 1 r.nw_proto || is_value 6 r.nw_proto || is_value 17 r.nw_proto)
-    (passes (is_value 0x0800) (λ m. m.dl_type) a b r x refl fields.is_dl_type s parts.0)
-    (passes (λ c. is_value 1 c || is_value 6 c || is_value 17 c) (λ m. m.nw_proto) a b r x refl fields.is_nw_proto s parts.1)
 
 -- a rule of the meet of two plain rules' matches is plain
 pub plain_meet : (r q p : Rule) → meet_of r.pattern q.pattern ≡ Some p.pattern → IsPlainRule r → IsPlainRule q → IsPlainRule p

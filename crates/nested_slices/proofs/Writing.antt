@@ -17,10 +17,10 @@ use Rattle.flowspace.proofs.Parts.{IsSwitchPolicy-rules_on}
 use Rattle.flowspace.proofs.Refusing.{is_value-Some, Some-is_value}
 use Rattle.flowmod_expand.specs.Pieces.{pieces_of}
 use Rattle.flowmod_expand.proofs.Space.{Any-pieces_of}
-use Rattle.flowmod_expand.proofs.Somewhere.{Any-first, Any-cases, Any-nil, Any-filter_map, filter_map-Any}
+use Rattle.flowmod_expand.proofs.Somewhere.{Any-first, Any-cases, Any-nil, Any-weaker, Any-kept, kept-Any, Any-filter_map, filter_map-Any}
 use Rattle.nested_slices.specs.Flat.{DivisionView, outer_slot, inner_slot, kept, part, parts, divided, flat_rules, division_of, flat}
 use Rattle.nested_slices.specs.Space.{IsDivisible}
-use Rattle.nested_slices.proofs.Lists.{Any-flat_map, flat_map-Any, Any-kept, kept-Any, Any-weaker}
+use Rattle.nested_slices.proofs.Lists.{Any-flat_map, flat_map-Any}
 use Rattle.nested_slices.proofs.Joining.{part_is, within_outer, within_inner, part_at, option_map-Some, outer_before, outer_apart}
 use Rattle.nested_slices.proofs.Placing.{in_order-by_place, Any-by_place, by_place-Any}
 

@@ -4,13 +4,14 @@ use Rattle.std.proofs.lemmas.Bool.{cases_Bool, cases_lt, cases_eq, cond-true, co
 use Rattle.std.proofs.lemmas.List.{get_or_default}
 use Rattle.std.proofs.lemmas.List.Elements.{All-nil, All-cons}
 use Rattle.std.proofs.lemmas.List.Kept.{AllPairs-cons}
+use Rattle.of10_model.proofs.Pairs.{AllPairs-nil}
 use Rattle.flowspace.specs.declared.rules.Rule.{Rule}
 use Rattle.flowspace.specs.Rules.{is_written_by, ShareHeader, Yields}
 use Rattle.flowspace.proofs.Refusing.{is_value-Some, Some-is_value}
 use Rattle.flowmod_expand.proofs.Somewhere.{All-filter_map}
 use Rattle.nested_slices.specs.Flat.{DivisionView, outer_slot, inner_slot, kept, part, parts, divided, numbered}
 use Rattle.nested_slices.specs.Space.{HasWriter}
-use Rattle.nested_slices.proofs.Lists.{AllPairs-nil, AllPairs-flat_map, AllPairs-filter_map}
+use Rattle.nested_slices.proofs.Lists.{AllPairs-flat_map, AllPairs-filter_map}
 use Rattle.nested_slices.proofs.Joining.{part_is, IsWithin, within_outer, within_inner, option_map-Some}
 
 -- ---- shared headers

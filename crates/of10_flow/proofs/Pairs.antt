@@ -1,12 +1,14 @@
 -- A table has each match and priority at most once.
-use Rattle.std.proofs.Common.{leb, not, Bool, List, [], ◌∷◌, map, filter, zero, suc, get_or, sym, ◌∙◌, inl, inr, arith}
+use Rattle.std.proofs.Common.{leb, not, List, [], ◌∷◌, map, zero, suc, get_or, sym, ◌∙◌, inl, inr, arith}
 use Rattle.std.specs.Prelude.{All, AllPairs}
 use Rattle.std.specs.List.{list_any}
 use Rattle.std.proofs.lemmas.Bool.{cases_Bool, both_ways}
-use Rattle.std.proofs.lemmas.List.Elements.{All-head, All-tail, All-filter}
+use Rattle.std.proofs.lemmas.List.Elements.{All-head, All-tail}
+use Rattle.std.proofs.lemmas.List.Kept.{AllPairs-cons, AllPairs-filter}
 use Rattle.std.proofs.lemmas.List.Quantifiers.{all_pairs_push}
 use Rattle.std.proofs.lemmas.List.Folds.{list_any_at}
 use Rattle.of10_model.specs.Normal.{IsNormal}
+use Rattle.of10_model.proofs.Pairs.{AllPairs-head, AllPairs-tail}
 use Rattle.of10_flow.specs.declared.flow_mod.FlowMod.{FlowMod}
 use Rattle.of10_flow.specs.declared.protocol.TheConstants.{DELETE}
 use Rattle.of10_flow.specs.declared.flow_entry.FlowEntry.{FlowEntry}
@@ -16,28 +18,9 @@ use Rattle.of10_flow.proofs.Keeping.{same_pattern, same_priority}
 use Rattle.of10_flow.proofs.Meaning.{names_iff, names-touches}
 
 module _ {A : Type 0} (R : A → A → Type 0) where
-  pub pairs_rest : (x : A) (xs : List A) → AllPairs R (x ∷ xs) → AllPairs R xs
-  pairs_rest x xs all i j d lt within = all (suc i) (suc j) d (omega arith) (omega arith)
-
-  pub pairs_first : (x : A) (xs : List A) → AllPairs R (x ∷ xs) → All (R x) xs
-  pairs_first x xs all k d lt = all zero (suc k) d (omega arith) (omega arith)
-
-  pub pairs_from : (x : A) (xs : List A) → All (R x) xs → AllPairs R xs → AllPairs R (x ∷ xs)
-  pairs_from x xs first rest zero zero d lt within = absurd (omega arith)
-  pairs_from x xs first rest zero (suc j) d lt within = first j d (omega arith)
-  pairs_from x xs first rest (suc i) zero d lt within = absurd (omega arith)
-  pairs_from x xs first rest (suc i) (suc j) d lt within = rest i j d (omega arith) (omega arith)
-
-  pub pairs_filter : (p : A → Bool) (xs : List A) → AllPairs R xs → AllPairs R (filter p xs)
-  pairs_filter p [] all = all
-  pairs_filter p (x ∷ xs) all = elim (cases_Bool (p x)) [
-    | inl is ↦ rw is (pairs_from x (filter p xs) (All-filter p (R x) xs (pairs_first x xs all)) (pairs_filter p xs (pairs_rest x xs all)))
-    | inr isnt ↦ rw isnt (pairs_filter p xs (pairs_rest x xs all))
-  ]
-
   pairs_map : (f : A → A) → ((x y : A) → R x y → R (f x) (f y)) → (xs : List A) → AllPairs R xs → AllPairs R (map f xs)
   pairs_map f keeps [] all = all
-  pairs_map f keeps (x ∷ xs) all = pairs_from (f x) (map f xs) (mapped xs (pairs_first x xs all)) (pairs_map f keeps xs (pairs_rest x xs all))
+  pairs_map f keeps (x ∷ xs) all = AllPairs-cons R (f x) (map f xs) (mapped xs (AllPairs-head R x xs all)) (pairs_map f keeps xs (AllPairs-tail R x xs all))
     where
       mapped : (xs : List A) → All (R x) xs → All (R (f x)) (map f xs)
       mapped [] all k d lt = absurd (omega arith)
@@ -57,7 +40,7 @@ once_Apply table m i once =
     elim (cases_Bool (refuses table m)) [
       | inl refused ↦ rw refused once
       | inr taken ↦ elim (cases_Bool (leb DELETE m.command)) [
-        | inl deletes ↦ rw (taken, deletes) (pairs_filter IsApart (λ e. not (touches m e)) table once)
+        | inl deletes ↦ rw (taken, deletes) (AllPairs-filter IsApart (λ e. not (touches m e)) table once)
         | inr not_delete ↦ elim (cases_Bool (list_any (touches m) table)) [
           | inl some ↦ rw (taken, not_delete, some) (pairs_map IsApart (with_actions_of m) (stays_apart m) table once)
           | inr none ↦ rw (taken, not_delete, none) (all_pairs_push IsApart table (entry_of m) once (λ k d lt same.

@@ -11,7 +11,7 @@ use Rattle.of10_action.specs.declared.action.Action.{Action}
 use Rattle.of10_flow.specs.declared.flow_entry.FlowEntry.{FlowEntry}
 use Rattle.of10_flow.specs.Tables.{touches, overlaps, refuses, entry_of, with_actions_of, Apply, ApplyAll}
 use Rattle.of10_flow.specs.TableLaws.{Deletes, Puts}
-use Rattle.of10_flow.proofs.Pairs.{pairs_first, pairs_rest}
+use Rattle.of10_model.proofs.Pairs.{AllPairs-head, AllPairs-tail}
 use Rattle.of10_flow.proofs.Choosing.{Among, among_filter, filter_among}
 
 -- ---- deletes
@@ -131,7 +131,7 @@ module _ (actions : List Action) where
       let others = All-tail (Puts actions) m ms puts in
       let here : Apply table m ≡ table ++ (entry_of m ∷ []) = rw (taken table m actions first, first.puts, All-head (λ x. list_any (touches x) table ≡ false) m ms none) refl in
       rw here (
-      touching_none ms others (table ++ (entry_of m ∷ [])) (still_none m ms table (All-tail (λ x. list_any (touches x) table ≡ false) m ms none) (pairs_first (λ m later. touches later (entry_of m) ≡ false) m ms apart)) (pairs_rest (λ m later. touches later (entry_of m) ≡ false) m ms apart)
+      touching_none ms others (table ++ (entry_of m ∷ [])) (still_none m ms table (All-tail (λ x. list_any (touches x) table ≡ false) m ms none) (AllPairs-head (λ m later. touches later (entry_of m) ≡ false) m ms apart)) (AllPairs-tail (λ m later. touches later (entry_of m) ≡ false) m ms apart)
       ∙ append_assoc table (entry_of m ∷ []) (map entry_of ms))
     where
       still_none : (m : FlowMod) (ms : List FlowMod) (table : List FlowEntry) → All (λ x. list_any (touches x) table ≡ false) ms → All (λ x. touches x (entry_of m) ≡ false) ms → All (λ x. list_any (touches x) (table ++ (entry_of m ∷ [])) ≡ false) ms

@@ -13,3 +13,4 @@ pub mod Including
 pub mod Disjointness
 pub mod Results
 pub mod Padding
+pub mod Pairs

@@ -15,7 +15,7 @@ use Rattle.of10_model.proofs.NormalFields.{normal_fields, applied_same, as_befor
 -- ---- a constraint of the meet is one of the two
 
 -- a value is one of two
-abbrev OneOf : {C : Type 0} → C → C → C → Type 0
+abbrev pub OneOf : {C : Type 0} → C → C → C → Type 0
 OneOf x c d = (x ≡ c) ⊎ (x ≡ d)
 
 -- the meet has each of the two constraints that isn't free
@@ -27,7 +27,7 @@ keeps (Some v) (Some w) r e =
     let same = eqb-true v w parts.0 in
     (inr parts.1, inr (rw same at parts.1))
 
-from_either : (c d r : Option ℕ) → both c d ≡ Some r → OneOf r c d
+pub from_either : (c d r : Option ℕ) → both c d ≡ Some r → OneOf r c d
 from_either None d r e = inr (sym (same_Some d r e))
 from_either (Some v) d r e = elim (keeps (Some v) d r e).0 [
   | inl n ↦ absurd cc
@@ -40,13 +40,13 @@ prefix_from_case : (p q : Prefix) (r : Option Prefix) (t : Bool)
 prefix_from_case p q r true e = inr (sym (cond_some (begins_as p q.value) (Some q) r e).1)
 prefix_from_case p q r false e = inl (sym (cond_some (begins_as q p.value) (Some p) r e).1)
 
-prefix_from_either : (c d r : Option Prefix) → both_prefix c d ≡ Some r → OneOf r c d
+pub prefix_from_either : (c d r : Option Prefix) → both_prefix c d ≡ Some r → OneOf r c d
 prefix_from_either None d r e = inr (sym (same_Some d r e))
 prefix_from_either (Some p) None r e = inl (sym (same_Some (Some p) r e))
 prefix_from_either (Some p) (Some q) r e = prefix_from_case p q r (leb p.bits q.bits) e
 
 -- what holds of both constraints holds of the meet's
-holds_too : {C : Type 0} (P : C → Type 0) (c d r : C) → OneOf r c d → P c → P d → P r
+pub holds_too : {C : Type 0} (P : C → Type 0) (c d r : C) → OneOf r c d → P c → P d → P r
 holds_too P c d r (inl e) p q = rw e p
 holds_too P c d r (inr e) p q = rw e q
 
@@ -57,7 +57,7 @@ passes_as t c r n (inl e) h = absurd (true≢false (sym (rw e at h) ∙ n))
 passes_as t c r n (inr e) h = rw e at h
 
 -- of a field of the match that is one of the two
-passes : (t : Option ℕ → Bool) (f : Pattern → Option ℕ) (a b r x : Pattern) → t None ≡ false → both (f a) (f b) ≡ Some (f r) → OneOf x a b → IsTrue (t (f x)) → IsTrue (t (f r))
+pub passes : (t : Option ℕ → Bool) (f : Pattern → Option ℕ) (a b r x : Pattern) → t None ≡ false → both (f a) (f b) ≡ Some (f r) → OneOf x a b → IsTrue (t (f x)) → IsTrue (t (f r))
 passes t f a b r x n e (inl s) h = passes_as t (f a) (f r) n (keeps (f a) (f b) (f r) e).0 (rw s at h)
 passes t f a b r x n e (inr s) h = passes_as t (f b) (f r) n (keeps (f a) (f b) (f r) e).1 (rw s at h)
 
@@ -118,7 +118,7 @@ exact_too a b r x i e s h =
       is_tp_dst = passes is_given (λ m. m.tp_dst) a b r x refl fields.is_tp_dst s each.is_tp_dst;
     })
 
-ports_too : (a b r x : Pattern) → meet_of a b ≡ Some r → OneOf x a b → IsTrue (has_ports x.dl_type x.nw_proto) → IsTrue (has_ports r.dl_type r.nw_proto)
+pub ports_too : (a b r x : Pattern) → meet_of a b ≡ Some r → OneOf x a b → IsTrue (has_ports x.dl_type x.nw_proto) → IsTrue (has_ports r.dl_type r.nw_proto)
 ports_too a b r x e s h =
     let fields = meet_fields a b r e in
     let parts = and_parts (is_value 0x0800 x.dl_type) (is_value 1 x.nw_proto || is_value 6 x.nw_proto || is_value 17 x.nw_proto) h in
