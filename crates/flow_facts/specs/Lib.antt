@@ -1,4 +1,3 @@
-pub mod Ranges
 pub mod FlowMods
 pub mod PacketOuts
 pub mod Inquiries

@@ -4,12 +4,11 @@ use Rattle.of10_ctl.specs.declared.kind.TheConstants.{FLOW_MOD, PACKET_OUT, STAT
 use Rattle.of10_ctl.specs.Kinds.{IsOf}
 use Rattle.of10_flow.specs.declared.flow_mod.FlowMod.{FlowMod}
 use Rattle.of10_flow.specs.declared.packet_out.PacketOut.{PacketOut}
-use Rattle.of10_flow.specs.FlowMods.{spell_flow_mod, read_flow_mod}
-use Rattle.of10_flow.specs.PacketOuts.{spell_packet_out, read_packet_out}
+use Rattle.of10_flow.specs.FlowMods.{IsRanged, spell_flow_mod, read_flow_mod}
+use Rattle.of10_flow.specs.PacketOuts.{IsRangedOut, spell_packet_out, read_packet_out}
 use Rattle.of10_message.specs.declared.controller.FromController.{FromController}
 use Rattle.of10_message.specs.Controller.{read_controller}
 use Rattle.flowspace.specs.declared.rules.Rule.{Rule}
-use Rattle.flow_facts.specs.Ranges.{IsRanged, IsRangedOut}
 use Rattle.flow_facts.specs.Inquiries.{MayBeAsked}
 
 -- ---- by their bytes

@@ -3,10 +3,9 @@
 ghost use Rattle.std.specs.Prelude.{◌≡◌, ◌≤◌, length, Ok};
 ghost use Rattle.of10_flow.specs.declared.flow_mod.FlowMod.{FlowMod};
 ghost use Rattle.of10_flow.specs.declared.packet_out.PacketOut.{PacketOut};
-ghost use Rattle.of10_flow.specs.FlowMods.{spell_flow_mod, read_flow_mod};
-ghost use Rattle.of10_flow.specs.PacketOuts.{spell_packet_out, read_packet_out};
+ghost use Rattle.of10_flow.specs.FlowMods.{IsRanged, spell_flow_mod, read_flow_mod};
+ghost use Rattle.of10_flow.specs.PacketOuts.{IsRangedOut, spell_packet_out, read_packet_out};
 ghost use Rattle.of10_message.specs.Heads.{xid_of};
-ghost use Rattle.flow_facts.specs.Ranges.{IsRanged, IsRangedOut};
 
 /// From the bytes of a flow-mod whose fields lie in their ranges, or of such a packet-out of at most 65,535 bytes, a
 /// switch reads just these fields, all but the transaction id. So what is said of a message by its fields is said of

@@ -43,16 +43,18 @@ unfolding piece_message
 is_sent m xid piece actions buffer is xid_fits normal all number small =
     record {
       xid = xid_fits;
-      pattern = normal;
-      cookie = is.cookie;
-      command = is.command;
-      idle = is.idle;
-      hard = is.hard;
-      priority = is.priority;
-      buffer = none_fits (is_delete m) buffer number;
-      out_port = is.out_port;
-      flags = flags_fit (is_delete m);
-      actions = none_are (is_delete m) actions all;
+      ranged = record {
+        pattern = normal;
+        cookie = is.ranged.cookie;
+        command = is.ranged.command;
+        idle = is.ranged.idle;
+        hard = is.ranged.hard;
+        priority = is.ranged.priority;
+        buffer = none_fits (is_delete m) buffer number;
+        out_port = is.ranged.out_port;
+        flags = flags_fit (is_delete m);
+        actions = none_are (is_delete m) actions all;
+      };
       fits = let size = spell_size (piece_message m xid piece actions buffer) in omega arith;
     }
 

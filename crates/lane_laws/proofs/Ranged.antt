@@ -47,7 +47,8 @@ use Rattle.desk_words.specs.declared.event.Timed.{Timed}
 use Rattle.desk_words.specs.Openings.{phase_of, opening_of}
 use Rattle.desk_words.specs.Histories.{is_slot, header_in, packet_said, number_given, side_of, packet_handed}
 use Rattle.desk_words.specs.Sent.{lane_by}
-use Rattle.flow_facts.specs.Ranges.{IsRanged, IsRangedOut}
+use Rattle.of10_flow.specs.FlowMods.{IsRanged}
+use Rattle.of10_flow.specs.PacketOuts.{IsRangedOut}
 use Rattle.flow_facts.specs.FlowMods.{LiesInFlowspace, OutputsToOwnPorts, LeavesOtherHeaders}
 use Rattle.flow_facts.specs.PacketOuts.{SendsOwnPacket, SendsToOwnPorts, ChangesNoTable}
 use Rattle.flow_facts.specs.Messages.{IsEitherThat, AsksForReply, IsSentThat}

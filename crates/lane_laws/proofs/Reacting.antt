@@ -15,8 +15,8 @@ use Rattle.of10_message.specs.Controller.{read_controller}
 use Rattle.of10_flow.specs.declared.flow_mod.FlowMod.{FlowMod}
 use Rattle.of10_flow.specs.declared.packet_out.PacketOut.{PacketOut}
 use Rattle.of10_flow.specs.declared.protocol.TheConstants.{NO_BUFFER}
-use Rattle.of10_flow.specs.FlowMods.{spell_flow_mod}
-use Rattle.of10_flow.specs.PacketOuts.{spell_packet_out}
+use Rattle.of10_flow.specs.FlowMods.{IsRanged, spell_flow_mod}
+use Rattle.of10_flow.specs.PacketOuts.{IsRangedOut, spell_packet_out}
 use Rattle.of10_flow.specs.Tables.{is_delete}
 use Rattle.frame_header.specs.Headers.{header_of_packet}
 use Rattle.flowspace.specs.declared.slices.Slice.{Slice}
@@ -47,7 +47,6 @@ use Rattle.slice_side.specs.Checking.{packet_kept, held_for, carrier_in, number_
 use Rattle.slice_side.proofs.Packets.{kept_packet}
 use Rattle.desk_words.specs.declared.event.Timed.{Timed}
 use Rattle.desk_words.specs.Histories.{side_of, view_of}
-use Rattle.flow_facts.specs.Ranges.{IsRanged, IsRangedOut}
 use Rattle.flow_facts.specs.FlowMods.{LiesInFlowspace, NamesOwnPort, OutputsToOwnPorts, LeavesOtherHeaders}
 use Rattle.flow_facts.specs.PacketOuts.{SendsOwnPacket, SendsToOwnPort, SendsProbeToOwnPort, SendsToOwnPorts, ChangesNoTable}
 use Rattle.flow_facts.specs.Messages.{IsSentThat}

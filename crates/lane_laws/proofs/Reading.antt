@@ -15,11 +15,12 @@ use Rattle.of10_model.specs.Results.{◌>>=◌}
 use Rattle.of10_ctl.specs.declared.kind.TheConstants.{HELLO, ERROR, ECHO_REQUEST, ECHO_REPLY, VENDOR, FEATURES_REQUEST, GET_CONFIG_REQUEST, SET_CONFIG, PACKET_OUT, FLOW_MOD, PORT_MOD, STATS_REQUEST, BARRIER_REQUEST, QUEUE_GET_CONFIG_REQUEST}
 use Rattle.of10_ctl.specs.Frames.{is_bad}
 use Rattle.of10_flow.specs.declared.flow_mod.FlowMod.{FlowMod}
-use Rattle.of10_flow.specs.FlowMods.{flow_mod_with, read_flow_mod}
+use Rattle.of10_flow.specs.FlowMods.{IsRanged, flow_mod_with, read_flow_mod}
+use Rattle.of10_flow.proofs.Viewed.{IsRanged-with}
 use Rattle.of10_flow.specs.declared.packet_in.PacketIn.{PacketIn}
 use Rattle.of10_flow.specs.declared.packet_out.PacketOut.{PacketOut}
 use Rattle.of10_flow.specs.PacketIns.{read_packet_in}
-use Rattle.of10_flow.specs.PacketOuts.{read_packet_out}
+use Rattle.of10_flow.specs.PacketOuts.{IsRangedOut, read_packet_out}
 use Rattle.of10_stats.specs.Requests.{read_request}
 use Rattle.of10_message.specs.Configs.{read_config}
 use Rattle.of10_message.specs.Queues.{read_queues_request}
@@ -71,29 +72,9 @@ AreActions (suc n) (byte ∷ bytes) actions h e =
 
 -- ---- flow-mods
 
--- but for its length, each field lies in its range
-pub record IsRead (m : FlowMod) : Type 0 where
-  pub pattern : IsNormal m.pattern
-  pub cookie : m.cookie < 2 ^ 64
-  pub command : m.command < 2 ^ 16
-  pub idle : m.idle < 2 ^ 16
-  pub hard : m.hard < 2 ^ 16
-  pub priority : m.priority < 2 ^ 16
-  pub out_port : m.out_port < 2 ^ 16
-  pub actions : All IsAction m.actions
-
-read_with : (actions : List Action) (bytes : List ℕ) → ((k : ℕ) → slice_index bytes k < 256) → All IsAction actions → IsRead (flow_mod_with actions bytes)
-unfolding flow_mod_with
-read_with actions bytes h each = record {
-  pattern = IsNormal-Norm (take 40 (drop 8 bytes)) (bytes-take 40 (drop 8 bytes) (bytes-drop bytes 8 h));
-  cookie = number_at-lt bytes 48 8 h;
-  command = number_at-lt bytes 56 2 h;
-  idle = number_at-lt bytes 58 2 h;
-  hard = number_at-lt bytes 60 2 h;
-  priority = number_at-lt bytes 62 2 h;
-  out_port = number_at-lt bytes 68 2 h;
-  actions = each;
-}
+-- but for its length and its transaction id, each field lies in its range
+abbrev pub IsRead : FlowMod → Type 0
+IsRead = IsRanged
 
 read_flow : (bytes : List ℕ) (m : FlowMod) → ((k : ℕ) → slice_index bytes k < 256) → read_flow_mod bytes ≡ Ok m → IsRead m
 unfolding read_flow_mod
@@ -101,14 +82,12 @@ read_flow bytes m h e =
     let fields = passed (nat_lt (length bytes) 72) (Length (length bytes)) (read_all (drop 72 bytes) >>= λ actions. Ok (flow_mod_with actions bytes)) m e in
     let list = bind_ok (read_all (drop 72 bytes)) (λ actions. Ok (flow_mod_with actions bytes)) m fields.1 in
     subst IsRead (ok_is (flow_mod_with list.0 bytes) m list.2)
-    (read_with list.0 bytes h (AreActions (length (drop 72 bytes)) (drop 72 bytes) list.0 (bytes-drop bytes 72 h) list.1))
+    (IsRanged-with list.0 bytes h (AreActions (length (drop 72 bytes)) (drop 72 bytes) list.0 (bytes-drop bytes 72 h) list.1))
 
 -- ---- packet-outs
 
--- but for its length, and its number, which isn't sent on, each field lies in its range
-pub record IsReadOut (m : PacketOut) : Type 0 where
-  pub in_port : m.in_port < 2 ^ 16
-  pub actions : All IsAction m.actions
+abbrev pub IsReadOut : PacketOut → Type 0
+IsReadOut = IsRangedOut
 
 read_out : (bytes : List ℕ) (m : PacketOut) → ((k : ℕ) → slice_index bytes k < 256) → read_packet_out bytes ≡ Ok m → IsReadOut m
 unfolding read_packet_out
@@ -127,7 +106,7 @@ read_out bytes m h e =
     let list = bind_ok (read_all (take size (drop 16 bytes))) given m long.1 in
     let behind = bytes-take size (drop 16 bytes) (bytes-drop bytes 16 h) in
     subst IsReadOut (ok_is (record { xid = number_at bytes 4 4; buffer = number_at bytes 8 4; in_port = number_at bytes 12 2; actions = list.0; payload = drop (16 + size) bytes }) m list.2)
-    (record { in_port = number_at-lt bytes 12 2 h; actions = AreActions (length (take size (drop 16 bytes))) (take size (drop 16 bytes)) list.0 behind list.1 })
+    (record { buffer = number_at-lt bytes 8 4 h; in_port = number_at-lt bytes 12 2 h; actions = AreActions (length (take size (drop 16 bytes))) (take size (drop 16 bytes)) list.0 behind list.1 })
 
 -- ---- packet-ins
 

@@ -13,7 +13,7 @@ use Rattle.of10_ctl.specs.Kinds.{IsOf}
 use Rattle.of10_port.specs.declared.features.Features.{Features}
 use Rattle.of10_flow.specs.declared.flow_mod.FlowMod.{FlowMod}
 use Rattle.of10_flow.specs.declared.protocol.TheConstants.{NO_BUFFER}
-use Rattle.of10_flow.specs.FlowMods.{IsFlowMod, spell_flow_mod, read_flow_mod}
+use Rattle.of10_flow.specs.FlowMods.{IsRanged, IsFlowMod, spell_flow_mod, read_flow_mod}
 use Rattle.of10_flow.specs.declared.packet_out.PacketOut.{PacketOut}
 use Rattle.of10_flow.specs.PacketOuts.{IsPacketOut, read_packet_out}
 use Rattle.of10_flow.proofs.Again.{flow_mod_of, flow_mod_again, packet_out_of, packet_out_again}
@@ -41,7 +41,6 @@ use Rattle.desk_words.specs.declared.event.Timed.{Timed}
 use Rattle.desk_words.specs.Openings.{opening_of}
 use Rattle.desk_words.specs.Histories.{is_slot, settings_at, header_in, side_of}
 use Rattle.desk_words.specs.Sent.{lane_by}
-use Rattle.flow_facts.specs.Ranges.{IsRanged}
 use Rattle.flow_facts.specs.FlowMods.{LiesInFlowspace, NamesOwnPort, StaysWithin}
 use Rattle.flow_facts.specs.PacketOuts.{SendsWithin, IsHeaderSent}
 use Rattle.flow_facts.specs.Messages.{IsEitherThat, IsReadAsInquiry, IsReadThat}
@@ -75,20 +74,7 @@ xid_sent m xid piece actions buffer = refl
 
 -- with its transaction id in its range, and where its message fits its length field, it has each field in its range
 flow_mod_is : (m : FlowMod) → IsRanged m → m.xid < 2 ^ 32 → length (spell_flow_mod m) ≤ 65535 → IsFlowMod m
-flow_mod_is m ranged below small = record {
-  xid = below;
-  pattern = ranged.pattern;
-  cookie = ranged.cookie;
-  command = ranged.command;
-  idle = ranged.idle;
-  hard = ranged.hard;
-  priority = ranged.priority;
-  buffer = ranged.buffer;
-  out_port = ranged.out_port;
-  flags = ranged.flags;
-  actions = ranged.actions;
-  fits = let size = spell_size m in omega (arith, size, small);
-}
+flow_mod_is m ranged below small = record { xid = below; ranged = ranged; fits = let size = spell_size m in omega (arith, size, small) }
 
 -- ---- lists of actions
 
@@ -233,7 +219,7 @@ each_read policy accepted normal h timed slot message all_bytes is =
           let ranges = flow_mod_is m ranged below small in
           inl (inl (record { kind = subst (IsOf FLOW_MOD) (sym spelled) (flow_mod_of m ranges); flow_mod = m; read = ap read_flow_mod spelled ∙ flow_mod_again m ranges; holds = within }))
       | inl (inr (m, spelled, ranged, (below, small, within))) ↦
-          let ranges : IsPacketOut m = record { xid = below; buffer = ranged.buffer; in_port = ranged.in_port; actions = ranged.actions; fits = small } in
+          let ranges : IsPacketOut m = record { xid = below; ranged = ranged; fits = small } in
           inl (inr (record { kind = subst (IsOf PACKET_OUT) (sym spelled) (packet_out_of m ranges); packet_out = m; read = ap read_packet_out spelled ∙ packet_out_again m ranges; holds = within }))
       | inr question ↦ inr question
     ])

@@ -4,8 +4,8 @@ ghost use Rattle.std.specs.Prelude.{ℕ, ◌≡◌, ◌<◌, ◌≤◌, ◌⊎�
 ghost use Rattle.of10_model.specs.declared.pattern.Pattern.{Pattern};
 ghost use Rattle.of10_flow.specs.declared.flow_mod.FlowMod.{FlowMod};
 ghost use Rattle.of10_flow.specs.declared.packet_out.PacketOut.{PacketOut};
-ghost use Rattle.of10_flow.specs.FlowMods.{spell_flow_mod, read_flow_mod};
-ghost use Rattle.of10_flow.specs.PacketOuts.{spell_packet_out, read_packet_out};
+ghost use Rattle.of10_flow.specs.FlowMods.{IsRanged, spell_flow_mod, read_flow_mod};
+ghost use Rattle.of10_flow.specs.PacketOuts.{IsRangedOut, spell_packet_out, read_packet_out};
 ghost use Rattle.of10_ctl.specs.declared.kind.TheConstants.{BARRIER_REQUEST, QUEUE_GET_CONFIG_REQUEST};
 ghost use Rattle.of10_message.specs.declared.queues.QueuesQuestion.{QueuesQuestion};
 ghost use Rattle.of10_message.specs.Queues.{spell_queues_request};
@@ -30,7 +30,6 @@ ghost use Rattle.desk_words.specs.declared.event.Event.TheVariants.{SliceMsg};
 ghost use Rattle.desk_words.specs.declared.event.Timed.{Timed};
 ghost use Rattle.desk_words.specs.Histories.{side_of, is_slice_up};
 ghost use Rattle.desk_words.specs.Sent.{lane_by};
-ghost use Rattle.flow_facts.specs.Ranges.{IsRanged, IsRangedOut};
 ghost use Rattle.flow_facts.specs.FlowMods.{LiesInFlowspace, OutputsToOwnPorts, LeavesOtherHeaders, StaysWithin};
 ghost use Rattle.flow_facts.specs.PacketOuts.{SendsOwnPacket, SendsToOwnPorts, ChangesNoTable, SendsWithin};
 ghost use Rattle.flow_facts.specs.Messages.{IsSentThat, IsReadThat};

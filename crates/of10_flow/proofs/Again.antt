@@ -1,5 +1,5 @@
 -- What is spelled is read again.
-use Rattle.std.proofs.Common.{◌≡◌, ◌+◌, [], length, drop, Ok, refl, sym, ap, ◌∙◌, arith}
+use Rattle.std.proofs.Common.{◌≡◌, ◌+◌, ◌<◌, ◌≤◌, ◌^◌, [], length, drop, Ok, refl, sym, ap, ◌∙◌, arith}
 use Rattle.std.proofs.lemmas.Bool.{le-ltb}
 use Rattle.std.proofs.lemmas.List.{drop-drop, length-append}
 use Rattle.std.proofs.Math.Seq.{take-append_seam, drop-append_seam}
@@ -16,18 +16,17 @@ use Rattle.of10_flow.specs.declared.flow_mod.FlowMod.{FlowMod}
 use Rattle.of10_flow.specs.declared.flow_removed.FlowRemoved.{FlowRemoved}
 use Rattle.of10_flow.specs.declared.packet_in.PacketIn.{PacketIn}
 use Rattle.of10_flow.specs.declared.packet_out.PacketOut.{PacketOut}
-use Rattle.of10_flow.specs.FlowMods.{IsFlowMod, spell_flow_mod, flow_mod_with, read_flow_mod}
+use Rattle.of10_flow.specs.FlowMods.{IsRanged, IsFlowMod, spell_flow_mod, flow_mod_with, read_flow_mod}
 use Rattle.of10_flow.specs.FlowRemoveds.{IsFlowRemoved, spell_flow_removed, read_flow_removed}
 use Rattle.of10_flow.specs.PacketIns.{IsPacketIn, spell_packet_in, read_packet_in}
-use Rattle.of10_flow.specs.PacketOuts.{IsPacketOut, spell_packet_out, read_packet_out}
+use Rattle.of10_flow.specs.PacketOuts.{IsRangedOut, IsPacketOut, spell_packet_out, read_packet_out}
 
 -- ---- flow-mods
 
-fields_again : (m : FlowMod) → IsFlowMod m → flow_mod_with m.actions (spell_flow_mod m) ≡ m
+fields_told : (m : FlowMod) → IsRanged m → flow_mod_with m.actions (spell_flow_mod m) ≡ record m { xid = number_at (spell_flow_mod m) 4 4 }
 unfolding Spell spell_flow_mod flow_mod_with
-fields_again m h =
+fields_told m h =
     rw (
-      big_number-reads_back 4 m.xid [] h.xid,
       Norm-Spell m.pattern h.pattern,
       big_number-reads_back 8 m.cookie [] h.cookie,
       big_number-reads_back 2 m.command [] h.command,
@@ -43,10 +42,18 @@ pub flow_mod_of : (m : FlowMod) → IsFlowMod m → IsOf FLOW_MOD (spell_flow_mo
 unfolding Spell spell_flow_mod
 flow_mod_of m h = IsOf-message 14 m.xid (drop 8 (spell_flow_mod m)) (omega arith)
 
-pub flow_mod_again : (m : FlowMod) → IsFlowMod m → read_flow_mod (spell_flow_mod m) ≡ Ok m
+-- of a flow-mod in ranges all fields are read, with the transaction id that the bytes have
+pub flow_mod_told : (m : FlowMod) → IsRanged m → read_flow_mod (spell_flow_mod m) ≡ Ok (record m { xid = number_at (spell_flow_mod m) 4 4 })
 unfolding Spell spell_flow_mod read_flow_mod
-flow_mod_again m h =
-    rw (le-ltb (length (spell_flow_mod m)) 72 (omega arith), actions_again m.actions h.actions) (ap (λ (x : FlowMod). Ok x) (fields_again m h))
+flow_mod_told m h =
+    rw (le-ltb (length (spell_flow_mod m)) 72 (omega arith), actions_again m.actions h.actions) (ap (λ (x : FlowMod). Ok x) (fields_told m h))
+
+flow_mod_xid : (m : FlowMod) → m.xid < 2 ^ 32 → number_at (spell_flow_mod m) 4 4 ≡ m.xid
+unfolding spell_flow_mod
+flow_mod_xid m below = big_number-reads_back 4 m.xid [] below
+
+pub flow_mod_again : (m : FlowMod) → IsFlowMod m → read_flow_mod (spell_flow_mod m) ≡ Ok m
+flow_mod_again m h = flow_mod_told m h.ranged ∙ ap (λ xid. Ok (record m { xid = xid })) (flow_mod_xid m h.xid)
 
 -- ---- packet-ins
 
@@ -94,13 +101,14 @@ pub packet_out_of : (m : PacketOut) → IsPacketOut m → IsOf PACKET_OUT (spell
 unfolding spell_packet_out
 packet_out_of m h = IsOf-message 13 m.xid (drop 8 (spell_packet_out m)) (omega (arith, h.fits, length-append (spelling m.actions) m.payload))
 
-pub packet_out_again : (m : PacketOut) → IsPacketOut m → read_packet_out (spell_packet_out m) ≡ Ok m
+-- of a packet-out in ranges all fields are read, with the transaction id that the bytes have
+pub packet_out_told : (m : PacketOut) → IsRangedOut m → length (spell_packet_out m) ≤ 65535 → read_packet_out (spell_packet_out m) ≡ Ok (record m { xid = number_at (spell_packet_out m) 4 4 })
 unfolding spell_packet_out read_packet_out
-packet_out_again m h =
+packet_out_told m h small =
     let bytes = spell_packet_out m in
     let actions = spelling m.actions in
-    let size : number_at bytes 14 2 ≡ length actions = big_number-reads_back 2 (length actions) [] (omega (arith, h.fits)) in
     let enough : length bytes ≡ 16 + length actions + length m.payload = omega (arith, length-append actions m.payload) in
+    let size : number_at bytes 14 2 ≡ length actions = big_number-reads_back 2 (length actions) [] (omega (arith, small, enough)) in
     let behind : drop (16 + length actions) bytes ≡ m.payload = sym (drop-drop (length actions) 16 bytes) ∙ drop-append_seam actions m.payload in
     rw (
       le-ltb (length bytes) 16 (omega arith),
@@ -109,7 +117,17 @@ packet_out_again m h =
       take-append_seam actions m.payload,
       actions_again m.actions h.actions,
       behind,
-      big_number-reads_back 4 m.xid [] h.xid,
       big_number-reads_back 4 m.buffer [] h.buffer,
       big_number-reads_back 2 m.in_port [] h.in_port,
     ) refl
+
+packet_out_xid : (m : PacketOut) → m.xid < 2 ^ 32 → number_at (spell_packet_out m) 4 4 ≡ m.xid
+unfolding spell_packet_out
+packet_out_xid m below = big_number-reads_back 4 m.xid [] below
+
+packet_out_fits : (m : PacketOut) → 16 + length (spelling m.actions) + length m.payload ≤ 65535 → length (spell_packet_out m) ≤ 65535
+unfolding spell_packet_out
+packet_out_fits m fits = omega (arith, fits, length-append (spelling m.actions) m.payload)
+
+pub packet_out_again : (m : PacketOut) → IsPacketOut m → read_packet_out (spell_packet_out m) ≡ Ok m
+packet_out_again m h = packet_out_told m h.ranged (packet_out_fits m h.fits) ∙ ap (λ xid. Ok (record m { xid = xid })) (packet_out_xid m h.xid)

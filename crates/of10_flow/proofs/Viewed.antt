@@ -13,15 +13,14 @@ use Rattle.of10_action.specs.Actions.{IsAction, spelling}
 use Rattle.of10_action.specs.Reading.{action_at, actions_at, read_all}
 use Rattle.of10_flow.specs.declared.flow_mod.FlowMod.{FlowMod}
 use Rattle.of10_flow.specs.declared.packet_out.PacketOut.{PacketOut}
-use Rattle.of10_flow.specs.FlowMods.{IsFlowMod, flow_mod_with, read_flow_mod}
+use Rattle.of10_flow.specs.FlowMods.{IsRanged, IsFlowMod, flow_mod_with, read_flow_mod}
 use Rattle.of10_flow.specs.PacketOuts.{begins_well, read_packet_out}
 use Rattle.of10_flow.proofs.Begins.{begins}
 
--- a flow-mod of bytes with right actions lies in range
-pub IsFlowMod-with : (actions : List Action) (bytes : List ℕ) → ((k : ℕ) → slice_index bytes k < 256) → All IsAction actions → 72 + length (spelling actions) ≤ 65535 → IsFlowMod (flow_mod_with actions bytes)
+-- the fields of a flow-mod of bytes with right actions lie in their ranges
+pub IsRanged-with : (actions : List Action) (bytes : List ℕ) → ((k : ℕ) → slice_index bytes k < 256) → All IsAction actions → IsRanged (flow_mod_with actions bytes)
 unfolding flow_mod_with
-IsFlowMod-with actions bytes h right fits = record {
-  xid = number_at-lt bytes 4 4 h;
+IsRanged-with actions bytes h right = record {
   pattern = IsNormal-Norm (take 40 (drop 8 bytes)) (bytes-take 40 (drop 8 bytes) (bytes-drop bytes 8 h));
   cookie = number_at-lt bytes 48 8 h;
   command = number_at-lt bytes 56 2 h;
@@ -32,8 +31,11 @@ IsFlowMod-with actions bytes h right fits = record {
   out_port = number_at-lt bytes 68 2 h;
   flags = number_at-lt bytes 70 2 h;
   actions = right;
-  fits = fits;
 }
+
+pub IsFlowMod-with : (actions : List Action) (bytes : List ℕ) → ((k : ℕ) → slice_index bytes k < 256) → All IsAction actions → 72 + length (spelling actions) ≤ 65535 → IsFlowMod (flow_mod_with actions bytes)
+unfolding flow_mod_with
+IsFlowMod-with actions bytes h right fits = record { xid = number_at-lt bytes 4 4 h; ranged = IsRanged-with actions bytes h right; fits = fits }
 
 -- bytes of which an action is read begin with one
 pub some_begins : (bytes : List ℕ) (actions : List Action) → read_all bytes ≡ Ok actions → 1 ≤ length actions → is_ok (action_at bytes) ≡ true

@@ -32,9 +32,8 @@ shown_flow_mod parts =
       actions = parts.actions.now;
     }
 
--- each field lies in the range of its place in the message, and the message fits its length field (section 5.3.3)
-pub record IsFlowMod (m : FlowMod) : Type 0 where
-  pub xid : m.xid < 2 ^ 32
+-- each field but the transaction id lies in the range of its place in the message, and the match is normal (section 5.3.3)
+pub record IsRanged (m : FlowMod) : Type 0 where
   pub pattern : IsNormal m.pattern
   pub cookie : m.cookie < 2 ^ 64
   pub command : m.command < 2 ^ 16
@@ -45,6 +44,11 @@ pub record IsFlowMod (m : FlowMod) : Type 0 where
   pub out_port : m.out_port < 2 ^ 16
   pub flags : m.flags < 2 ^ 16
   pub actions : All IsAction m.actions
+
+-- so does each field, and the message fits its length field
+pub record IsFlowMod (m : FlowMod) : Type 0 where
+  pub xid : m.xid < 2 ^ 32
+  pub ranged : IsRanged m
   pub fits : 72 + length (spelling m.actions) ≤ 65535
 
 -- the bytes of a flow-mod: the match, eight numbers and the actions (section 5.3.3)

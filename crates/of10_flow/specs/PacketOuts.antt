@@ -12,12 +12,16 @@ use Rattle.of10_ctl.specs.declared.kind.TheConstants.{PACKET_OUT}
 use Rattle.of10_ctl.specs.Frames.{message_of}
 use Rattle.of10_flow.specs.declared.packet_out.PacketOut.{PacketOut}
 
--- each field lies in the range of its place in the message, and the message fits its length field (section 5.3.6)
-pub record IsPacketOut (m : PacketOut) : Type 0 where
-  pub xid : m.xid < 2 ^ 32
+-- each field but the transaction id lies in the range of its place in the message (section 5.3.6)
+pub record IsRangedOut (m : PacketOut) : Type 0 where
   pub buffer : m.buffer < 2 ^ 32
   pub in_port : m.in_port < 2 ^ 16
   pub actions : All IsAction m.actions
+
+-- so does each field, and the message fits its length field
+pub record IsPacketOut (m : PacketOut) : Type 0 where
+  pub xid : m.xid < 2 ^ 32
+  pub ranged : IsRangedOut m
   pub fits : 16 + length (spelling m.actions) + length m.payload ≤ 65535
 
 -- the bytes of a packet-out: buffer, port, the length of the actions, the actions and the packet (section 5.3.6)
