@@ -6,7 +6,8 @@ use Rattle.std.proofs.lemmas.Bool.{or_parts, ne_eqb}
 use Rattle.flowspace.specs.Policies.{PolicyView}
 use Rattle.std.proofs.lemmas.List.{append-nil}
 use Rattle.recording.specs.declared.item.Item.{Item}
-use Rattle.recording.specs.Recordings.{Told, IsItem, switch_up, switch_bytes, slice_bytes}
+use Rattle.recording.specs.declared.item.TheConstants.{BYTE_LIMIT}
+use Rattle.recording.specs.Recordings.{Told, IsItem, switch_up, switch_bytes, slice_bytes, sent_bytes}
 use Rattle.answer_bounds.specs.Bounds.{IsFramed, AreFramed}
 use Rattle.desk_words.specs.declared.event.Timed.{Timed}
 use Rattle.desk_words.specs.Recorded.{told_by, stream_before, history_of, history_at, events_in, bytes_carried, told_in, Happened, each_after, happened_in}
@@ -63,10 +64,14 @@ pub other_found : (p : PolicyView) (r : Told) (before : List Told) (switch : Swi
 other_found p r before switch other stands = subst (λ (comes : Bool). IsFoundWhere comes p r before switch) (sym (ne_eqb r.kind switch_up other)) stands
 
 -- a record of a kind that carries no bytes has none
-no_bytes : (size : ℕ) (of_switch of_slice : Bool) → of_switch ≡ false → of_slice ≡ false → size ≤ (if of_switch || of_slice then 16777216 else 0) → size ≡ 0
-no_bytes size true of_slice a b few = absurd (true≢false a)
-no_bytes size false true a b few = absurd (true≢false b)
-no_bytes size false false a b few = omega (arith, few)
+no_bytes : (size most : ℕ) (of_switch of_slice sent : Bool) → of_switch ≡ false → of_slice ≡ false → sent ≡ false → size ≤ (if of_switch || of_slice || sent then most else 0) → size ≡ 0
+no_bytes size most true of_slice sent a b c few = absurd (true≢false a)
+no_bytes size most false true sent a b c few = absurd (true≢false b)
+no_bytes size most false false true a b c few = absurd (true≢false c)
+no_bytes size most false false false a b c few = omega (arith, few)
+
+not_sent : (kind : ℕ) → kind ≤ 5 → kind ≡ sent_bytes → ⊥
+not_sent kind known sent = omega (arith, known, sent)
 
 -- what is read of a recording is a record of it
 pub is_record : (slices : ℕ) (file : List ℕ) (item : Item) → IsItem slices file item → IsRecord slices item (bytes_carried file item)
@@ -77,7 +82,7 @@ is_record slices file item is =
       switch = is.switch;
       of_switch = is.of_switch;
       of_slice = is.of_slice;
-      silent = λ a b. ap (λ (n : ℕ). take n (drop item.from file)) (no_bytes item.size (item.kind == switch_bytes) (item.kind == slice_bytes) (ne_eqb item.kind switch_bytes a) (ne_eqb item.kind slice_bytes b) size);
+      silent = λ a b. ap (λ (n : ℕ). take n (drop item.from file)) (no_bytes item.size BYTE_LIMIT (item.kind == switch_bytes) (item.kind == slice_bytes) (item.kind == sent_bytes) (ne_eqb item.kind switch_bytes a) (ne_eqb item.kind slice_bytes b) (ne_eqb item.kind sent_bytes (not_sent item.kind is.known)) size);
     }
 
 streams_other : (slices switch : ℕ) (r : Told) (before : List Told) (streams : Streams) → (r.switch == switch) ≡ false → StreamsStand slices switch before streams → StreamsStand slices switch (r ∷ before) streams

@@ -7,7 +7,8 @@ use Rattle.std.proofs.lemmas.Bool.{le-leb}
 use Rattle.std.proofs.lemmas.List.Elements.{All-from_recursion}
 use Rattle.of10_port.specs.Features.{spell_features, features_front}
 use Rattle.recording.specs.declared.item.Item.{Item}
-use Rattle.recording.specs.Recordings.{Told, HasMoment, placed_record, all_told, may_be_told, is_formed, fits, is_switch_open, is_slice_open, read_items, magic, record_bytes, head_spelling}
+use Rattle.recording.specs.declared.layout.Layout.TheVariants.{Recording}
+use Rattle.recording.specs.Recordings.{Told, HasMoment, placed_record, all_told, may_be_told, has_form, fits, is_switch_open, is_slice_open, read_items, magic, record_bytes, head_spelling}
 use Rattle.recording.proofs.Told.{told_again}
 use Rattle.fv_generator.specs.Made.{by_switch, by_slice, features_message, opening, drawn_round, rounds, records_of, recording_of}
 use Rattle.fv_generator.proofs.Sizes.{features_size}
@@ -21,7 +22,7 @@ record AllUp (before : List Item) : Type 0 where
 
 -- a record may come next, and leaves all up
 record MayCome (at : ℕ) (before : List Item) (r : Told) : Type 0 where
-  formed : is_formed 2 0 (placed_record at r) ≡ true
+  formed : has_form Recording 2 0 (placed_record at r) ≡ true
   fitting : fits before (placed_record at r) ≡ true
   up : AllUp (placed_record at r ∷ before)
 

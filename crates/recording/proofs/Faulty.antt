@@ -9,7 +9,8 @@ use Rattle.of10_model.proofs.Ranges.{number_at-lt}
 use Rattle.recording.specs.declared.item.Item.{Item}
 use Rattle.recording.specs.declared.fault.RecordingFault.{RecordingFault}
 use Rattle.recording.specs.declared.fault.RecordingFault.TheVariants.{Torn, Bad, NotOpen, Memory}
-use Rattle.recording.specs.Recordings.{Told, placed_record, record_bytes, head_spelling, item_at, is_formed, fits, record_at, record_in}
+use Rattle.recording.specs.declared.layout.Layout.TheVariants.{Recording}
+use Rattle.recording.specs.Recordings.{Told, placed_record, record_bytes, head_spelling, item_at, has_form, fits, record_at, record_in}
 use Rattle.recording.specs.Faults.{HasForm, HasNoForm, IsCutOff, IsUnfit, IsFaultAt}
 use Rattle.recording.proofs.Told.{number_first, number_behind, spell_length, kind_again, switch_again, slot_again, zero_again, size_again, small, head_again, with_rest}
 use Rattle.recording.proofs.Untold.{AreBytes, head_spelled, zero_formed, size_at, told_spelled}
@@ -24,8 +25,8 @@ head_same xs ys e k n m is le =
     sym (number_take xs k n m le) ∙ ap (λ l. number_at l k n) (ap (λ s. take s xs) is ∙ e ∙ ap (λ s. take s ys) (sym is)) ∙ number_take ys k n m le
 
 -- bytes that begin as a record of the form say its head
-head_told : (slices : ℕ) (front rest : List ℕ) (t : Told) → is_formed slices 0 (placed_record (length front) t) ≡ true → take 16 rest ≡ take 16 (record_bytes t)
-    → (is_formed slices (number_at (front ++ rest) (length front + 3) 1) (item_at (front ++ rest) (length front)) ≡ true) × ((item_at (front ++ rest) (length front)).size ≡ length t.bytes)
+head_told : (slices : ℕ) (front rest : List ℕ) (t : Told) → has_form Recording slices 0 (placed_record (length front) t) ≡ true → take 16 rest ≡ take 16 (record_bytes t)
+    → (has_form Recording slices (number_at (front ++ rest) (length front + 3) 1) (item_at (front ++ rest) (length front)) ≡ true) × ((item_at (front ++ rest) (length front)).size ≡ length t.bytes)
 unfolding item_at
 head_told slices front rest t formed e =
     let few : length t.bytes < 2 ^ 32 = small slices 0 (placed_record (length front) t) formed in
@@ -58,20 +59,20 @@ unfolding item_at
 item_with front rest body is = rw (number_first front rest 1, number_behind front rest 1 1, number_behind front rest 2 1, number_behind front rest 8 8, number_behind front rest 4 4, is) refl
 
 -- a head of the form is that of a record of the form, with any body of its size
-form_with : (slices : ℕ) (front rest body : List ℕ) → AreBytes rest → length body ≡ number_at rest 4 4 → is_formed slices (number_at (front ++ rest) (length front + 3) 1) (item_at (front ++ rest) (length front)) ≡ true
+form_with : (slices : ℕ) (front rest body : List ℕ) → AreBytes rest → length body ≡ number_at rest 4 4 → has_form Recording slices (number_at (front ++ rest) (length front + 3) 1) (item_at (front ++ rest) (length front)) ≡ true
     → (number_at rest 3 1 ≡ 0) × HasForm slices (length front) (told_with rest body)
 form_with slices front rest body bytes is formed =
     let zero_and = zero_formed slices (number_at (front ++ rest) (length front + 3) 1) (item_at (front ++ rest) (length front)) formed in
     let none : number_at rest 3 1 ≡ 0 = rw (number_behind front rest 3 1) at zero_and.0 in
-    let head : is_formed slices 0 (placed_record (length front) (told_with rest body)) ≡ true = rw (item_with front rest body is) at zero_and.1 in
+    let head : has_form Recording slices 0 (placed_record (length front) (told_with rest body)) ≡ true = rw (item_with front rest body is) at zero_and.1 in
     (none, (head, number_at-lt rest 8 8 bytes))
 
 -- ---- what is wrong
 
-no_form : (slices : ℕ) (front rest : List ℕ) → 16 ≤ length rest → is_formed slices (number_at (front ++ rest) (length front + 3) 1) (item_at (front ++ rest) (length front)) ≡ false → HasNoForm slices (length front) rest
+no_form : (slices : ℕ) (front rest : List ℕ) → 16 ≤ length rest → has_form Recording slices (number_at (front ++ rest) (length front + 3) 1) (item_at (front ++ rest) (length front)) ≡ false → HasNoForm slices (length front) rest
 no_form slices front rest long bad = (long, λ t form e. absurd (let h = (head_told slices front rest t form.0 e).0 in cc))
 
-cut_off : (slices : ℕ) (front rest : List ℕ) → AreBytes rest → 16 ≤ length rest → is_formed slices (number_at (front ++ rest) (length front + 3) 1) (item_at (front ++ rest) (length front)) ≡ true
+cut_off : (slices : ℕ) (front rest : List ℕ) → AreBytes rest → 16 ≤ length rest → has_form Recording slices (number_at (front ++ rest) (length front + 3) 1) (item_at (front ++ rest) (length front)) ≡ true
     → length rest < 16 + number_at rest 4 4 → IsCutOff slices (length front) rest
 cut_off slices front rest bytes long formed short =
     let size : ℕ = number_at rest 4 4 in
@@ -90,7 +91,7 @@ cut_off slices front rest bytes long formed short =
       begun = spell_with rest body is ∙ sym (append_assoc (head_of rest) (drop 16 rest) missing) ∙ ap (λ l. l ++ missing) (head_spelled rest bytes long form.0);
     }
 
-unfit : (slices : ℕ) (front rest : List ℕ) (before : List Item) → AreBytes rest → is_formed slices (number_at (front ++ rest) (length front + 3) 1) (item_at (front ++ rest) (length front)) ≡ true
+unfit : (slices : ℕ) (front rest : List ℕ) (before : List Item) → AreBytes rest → has_form Recording slices (number_at (front ++ rest) (length front + 3) 1) (item_at (front ++ rest) (length front)) ≡ true
     → number_at rest 4 4 + 16 ≤ length rest → fits before (item_at (front ++ rest) (length front)) ≡ false → IsUnfit slices before (length front) rest
 unfit slices front rest before bytes formed whole shut =
     let size : ℕ = number_at rest 4 4 in
@@ -121,7 +122,7 @@ fault_found slices front rest before fault bytes e =
     let P : RecordingFault → Type 0 = IsFaultAt slices before place rest in
     or_else P (ltb left 16) (Torn place) fault _ e
     (λ a. (refl, inl (let lt = ltb-true _ _ a in omega (arith, lt, long))))
-    (λ a e1. let some = ltb-false _ _ a in or_else P (not (is_formed slices (number_at all (place + 3) 1) q)) (Bad place) fault _ e1
+    (λ a e1. let some = ltb-false _ _ a in or_else P (not (has_form Recording slices (number_at all (place + 3) 1) q)) (Bad place) fault _ e1
     (λ b. (refl, no_form slices front rest (omega (arith, some, long)) (not-true _ b)))
     (λ b e2. or_else P (ltb (left - 16) q.size) (Torn place) fault _ e2
     (λ c. (refl, inr (let lt = ltb-true _ _ c in cut_off slices front rest bytes (omega (arith, some, long)) (not-false _ b) (omega (arith, lt, long, some, sized)))))
@@ -153,7 +154,7 @@ form_bad slices front rest before bytes none =
     let size : ℕ = number_at rest 4 4 in
     let body : List ℕ = replicate size 0 in
     let is : length body ≡ size = length-replicate size 0 in
-    let bad : is_formed slices (number_at (front ++ rest) (length front + 3) 1) (item_at (front ++ rest) (length front)) ≡ false = false_from_ne_true _ (λ formed.
+    let bad : has_form Recording slices (number_at (front ++ rest) (length front + 3) 1) (item_at (front ++ rest) (length front)) ≡ false = false_from_ne_true _ (λ formed.
     let form = form_with slices front rest body bytes is formed in
     let begun : take 16 rest ≡ take 16 (record_bytes (told_with rest body)) =
     ap (take 16) (sym (head_spelled rest bytes none.0 form.0)) ∙ take-append-le 16 (head_of rest) (drop 16 rest) (omega (arith, length-head_of rest))

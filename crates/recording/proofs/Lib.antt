@@ -5,3 +5,4 @@ pub mod Told
 pub mod Untold
 pub mod Faulty
 pub mod Refused
+pub mod Left

@@ -12,7 +12,8 @@ use Rattle.of10_model.proofs.Results.{bind_err, others_wrong}
 use Rattle.recording.specs.declared.item.Item.{Item}
 use Rattle.recording.specs.declared.fault.RecordingFault.{RecordingFault}
 use Rattle.recording.specs.declared.fault.RecordingFault.TheVariants.{Torn, Bad}
-use Rattle.recording.specs.Recordings.{Told, HasMoment, placed_record, all_told, may_be_told, recording, record_bytes, magic, is_formed, fits, record_at, items_from, read_items, items_in, read_in}
+use Rattle.recording.specs.declared.layout.Layout.TheVariants.{Recording}
+use Rattle.recording.specs.Recordings.{Told, HasMoment, placed_record, all_told, may_be_told, recording, record_bytes, magic, has_form, fits, record_at, items_from, read_items, items_in, read_in}
 use Rattle.recording.specs.Faults.{IsFaultAt, IsFirstRecordingFault, IsRefused}
 use Rattle.recording.proofs.Told.{spell_length, record_again, with_rest}
 use Rattle.recording.proofs.Untold.{AreBytes, bytes_of, bytes-behind, Begins, begins, length-begins}
@@ -82,7 +83,7 @@ stops_later slices front more before r fault b s =
     let W : ℕ → Item → List ℕ → Type 0 = λ p i l. IsFaultAt slices (reverse (all_told p s.told) ++ (i ∷ before)) (length l) s.rest fault in
     let wrong : W next (placed_record at t) (front ++ flat_map record_bytes (t ∷ s.told)) =
     subst (λ l. W next (placed_record at t) l) (sym (behind_one front t s.told)) (subst (λ i. W next i ((front ++ record_bytes t) ++ flat_map record_bytes s.told)) b.is_told (subst (λ p. W p r ((front ++ record_bytes t) ++ flat_map record_bytes s.told)) place s.wrong)) in
-    let formed : is_formed slices 0 (placed_record at t) ≡ true = rw b.is_told at b.formed in
+    let formed : has_form Recording slices 0 (placed_record at t) ≡ true = rw b.is_told at b.formed in
     let fit : fits before (placed_record at t) ≡ true = rw b.is_told at b.fit in
     record {
       told = t ∷ s.told;
@@ -134,8 +135,8 @@ walk_refused (t ∷ told) (suc n) slices front rest before fault bytes some h m 
     let next : ℕ = place + 16 + length t.bytes in
     let front' : List ℕ = front ++ record_bytes t in
     let here : length front' ≡ next = next_place front t in
-    let parts = and_parts (is_formed slices 0 r && fits before r) (may_be_told slices (r ∷ before) (all_told next told)) right in
-    let head = and_parts (is_formed slices 0 r) (fits before r) parts.0 in
+    let parts = and_parts (has_form Recording slices 0 r && fits before r) (may_be_told slices (r ∷ before) (all_told next told)) right in
+    let head = and_parts (has_form Recording slices 0 r) (fits before r) parts.0 in
     let split : flat_map record_bytes (t ∷ told) ++ rest ≡ record_bytes t ++ (body ++ rest) = ap (λ l. l ++ rest) (flat_map-cons record_bytes t told) ∙ append_assoc (record_bytes t) body rest in
     let all : List ℕ = front ++ (record_bytes t ++ (body ++ rest)) in
     let grouped : front' ++ (body ++ rest) ≡ all = append_assoc front (record_bytes t) (body ++ rest) in

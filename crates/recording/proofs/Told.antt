@@ -10,7 +10,9 @@ use Rattle.byteorder.specs.Endian.{big_number, big_bytes}
 use Rattle.byteorder.specs.Numbers.{big_number-reads_back}
 use Rattle.of10_model.specs.Normal.{number_at}
 use Rattle.recording.specs.declared.item.Item.{Item}
-use Rattle.recording.specs.Recordings.{Told, HasMoment, placed_record, all_told, may_be_told, recording, record_bytes, magic, head_spelling, item_at, byte_limit, is_formed, fits, record_at, items_from, read_items, record_in, items_in, read_in}
+use Rattle.recording.specs.declared.item.TheConstants.{BYTE_LIMIT}
+use Rattle.recording.specs.declared.layout.Layout.TheVariants.{Recording}
+use Rattle.recording.specs.Recordings.{Told, HasMoment, placed_record, all_told, may_be_told, recording, record_bytes, magic, head_spelling, item_at, byte_limit, has_form, fits, record_at, items_from, read_items, record_in, items_in, read_in}
 
 -- a number behind other bytes
 pub number_behind : (front more : List ℕ) (k n : ℕ) → number_at (front ++ more) (length front + k) n ≡ number_at more k n
@@ -72,17 +74,17 @@ with_rest front rest t =
     let c = spell_length t in
     omega (arith, a, b, c)
 
-limit_small : (b : Bool) → cond b 16777216 0 ≤ 16777216
+limit_small : (b : Bool) → cond b BYTE_LIMIT 0 ≤ BYTE_LIMIT
 limit_small true = omega arith
 limit_small false = omega arith
 
-pub small : (slices reserved : ℕ) (r : Item) → is_formed slices reserved r ≡ true → r.size < 2 ^ 32
+pub small : (slices reserved : ℕ) (r : Item) → has_form Recording slices reserved r ≡ true → r.size < 2 ^ 32
 small slices reserved r e =
     let fits_limit = leb-true _ _ (and_parts _ (leb r.size (byte_limit r.kind)) e).1 in
-    let limit : byte_limit r.kind ≤ 16777216 = limit_small _ in
+    let limit : byte_limit r.kind ≤ BYTE_LIMIT = limit_small _ in
     omega (arith, fits_limit, limit)
 
-pub record_again : (slices : ℕ) (front rest : List ℕ) (before : List Item) (t : Told) → t.moment < 2 ^ 64 → is_formed slices 0 (placed_record (length front) t) ≡ true → fits before (placed_record (length front) t) ≡ true
+pub record_again : (slices : ℕ) (front rest : List ℕ) (before : List Item) (t : Told) → t.moment < 2 ^ 64 → has_form Recording slices 0 (placed_record (length front) t) ≡ true → fits before (placed_record (length front) t) ≡ true
     → record_at slices (front ++ (record_bytes t ++ rest)) before (length front) ≡ Ok (placed_record (length front) t)
 unfolding record_in
 record_again slices front rest before t early formed fit =
@@ -113,8 +115,8 @@ walk (t ∷ told) (suc n) slices front before h m e =
     let b = length-append (record_bytes t) rest in
     let c = spell_length t in
     let d : length (front ++ record_bytes t) ≡ next = omega (arith, length-append front (record_bytes t), c) in
-    let parts = and_parts (is_formed slices 0 r && fits before r) (may_be_told slices (r ∷ before) (all_told next told)) e in
-    let head = and_parts (is_formed slices 0 r) (fits before r) parts.0 in
+    let parts = and_parts (has_form Recording slices 0 r && fits before r) (may_be_told slices (r ∷ before) (all_told next told)) e in
+    let head = and_parts (has_form Recording slices 0 r) (fits before r) parts.0 in
     let P : ℕ → Type 0 = λ at. may_be_told slices (r ∷ before) (all_told at told) ≡ true in
     let Q : ℕ → Type 0 = λ at. items_from n slices ((front ++ record_bytes t) ++ rest) (r ∷ before) at ≡ Ok (all_told at told) in
     let later : Q next = subst Q d (walk told n slices (front ++ record_bytes t) (r ∷ before) (omega (arith, a, b, c, h)) (All-tail HasMoment t told m) (subst P (sym d) parts.1)) in

@@ -14,7 +14,8 @@ use Rattle.of10_model.proofs.Ranges.{bytes-drop, number_at-lt}
 use Rattle.of10_model.proofs.Results.{ok_is, passed, met, bind_ok}
 use Rattle.recording.specs.declared.item.Item.{Item}
 use Rattle.recording.specs.declared.fault.RecordingFault.TheVariants.{Torn, Bad, NotOpen}
-use Rattle.recording.specs.Recordings.{Told, HasMoment, placed_record, all_told, may_be_told, recording, record_bytes, magic, head_spelling, item_at, byte_limit, is_formed, fits, record_at, items_from, read_items, record_in, items_in, read_in}
+use Rattle.recording.specs.declared.layout.Layout.TheVariants.{Recording}
+use Rattle.recording.specs.Recordings.{Told, HasMoment, placed_record, all_told, may_be_told, recording, record_bytes, magic, head_spelling, item_at, byte_limit, has_form, fits, record_at, items_from, read_items, record_in, items_in, read_in}
 use Rattle.recording.proofs.Forms.{ended, past}
 use Rattle.recording.proofs.Told.{number_first, number_behind, spell_length}
 
@@ -110,7 +111,7 @@ pub record Begins (slices : ℕ) (front more : List ℕ) (before : List Item) (r
   pub spelled : more ≡ record_bytes told ++ rest
   pub is_told : r ≡ placed_record (length front) told
   pub moment : HasMoment told
-  pub formed : is_formed slices 0 r ≡ true
+  pub formed : has_form Recording slices 0 r ≡ true
   pub fit : fits before r ≡ true
 
 item_told : (front more : List ℕ) (size : ℕ) → number_at more 4 4 ≡ size → size + 16 ≤ length more → item_at (front ++ more) (length front) ≡ placed_record (length front) (told_of more size)
@@ -120,7 +121,7 @@ item_told front more size is long =
     let taken : length (take size (drop 16 more)) ≡ size = length-take-le size (drop 16 more) (omega arith) in
     rw (number_first front more 1, number_behind front more 1 1, number_behind front more 2 1, number_behind front more 8 8, number_behind front more 4 4, taken, is) refl
 
-pub zero_formed : (slices reserved : ℕ) (r : Item) → is_formed slices reserved r ≡ true → (reserved ≡ 0) × (is_formed slices 0 r ≡ true)
+pub zero_formed : (slices reserved : ℕ) (r : Item) → has_form Recording slices reserved r ≡ true → (reserved ≡ 0) × (has_form Recording slices 0 r ≡ true)
 zero_formed slices reserved r e =
     let whole = and_parts _ (leb r.size (byte_limit r.kind)) e in
     let none : reserved ≡ 0 = eqb-true reserved 0 (and_parts _ (reserved == 0) whole.0).1 in
@@ -141,7 +142,7 @@ begins slices front more before r bytes e =
     let left = length all - length front in
     let q = item_at all (length front) in
     let a = passed (ltb left 16) (Torn (length front)) _ r e in
-    let b = passed (not (is_formed slices (number_at all (length front + 3) 1) q)) (Bad (length front)) _ r a.1 in
+    let b = passed (not (has_form Recording slices (number_at all (length front + 3) 1) q)) (Bad (length front)) _ r a.1 in
     let c = passed (ltb (left - 16) q.size) (Torn (length front)) _ r b.1 in
     let d = passed (not (fits before q)) (NotOpen (length front)) _ r c.1 in
     let is : q ≡ r = ok_is q r d.1 in

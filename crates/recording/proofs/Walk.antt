@@ -42,7 +42,7 @@ same_count layout (suc n) (suc m) slices bytes before at hn hm =
     ap (λ (x : Result (List Item) RecordingFault). x >>= λ others. Ok (r ∷ others)) (same_count layout n m slices bytes (r ∷ before) (r.from + r.size) (omega (arith, b.0)) (omega (arith, b.0)))))
 
 -- the step of a reading that isn't at the end
-reads_on : (layout : Layout) (slices : ℕ) (bytes : List ℕ) (before : List Item) (at : ℕ) → at < length bytes → items_in layout (length bytes) slices bytes before at
+pub reads_on : (layout : Layout) (slices : ℕ) (bytes : List ℕ) (before : List Item) (at : ℕ) → at < length bytes → items_in layout (length bytes) slices bytes before at
     ≡ (record_in layout slices bytes before at >>= λ r. items_in layout (length bytes) slices bytes (r ∷ before) (r.from + r.size) >>= λ others. Ok (r ∷ others))
 unfolding items_in
 reads_on layout slices bytes before at h =

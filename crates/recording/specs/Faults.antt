@@ -4,11 +4,12 @@ use Rattle.std.specs.List.{All}
 use Rattle.recording.specs.declared.item.Item.{Item}
 use Rattle.recording.specs.declared.fault.RecordingFault.{RecordingFault}
 use Rattle.recording.specs.declared.fault.RecordingFault.TheVariants.{Torn, Bad, NotOpen, Memory}
-use Rattle.recording.specs.Recordings.{Told, HasMoment, placed_record, all_told, may_be_told, is_formed, fits, record_bytes, magic, recording}
+use Rattle.recording.specs.declared.layout.Layout.TheVariants.{Recording}
+use Rattle.recording.specs.Recordings.{Told, HasMoment, placed_record, all_told, may_be_told, has_form, fits, record_bytes, magic, recording}
 
 -- a record of the form
 abbrev pub HasForm : ℕ → ℕ → Told → Type 0
-HasForm slices at told = (is_formed slices 0 (placed_record at told) ≡ true) × HasMoment told
+HasForm slices at told = (has_form Recording slices 0 (placed_record at told) ≡ true) × HasMoment told
 
 -- a whole head that begins no record of the form
 abbrev pub HasNoForm : ℕ → ℕ → List ℕ → Type 0

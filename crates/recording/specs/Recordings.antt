@@ -5,6 +5,7 @@ use Rattle.byteorder.specs.Endian.{big_bytes}
 use Rattle.of10_model.specs.Normal.{number_at}
 use Rattle.of10_model.specs.Results.{◌>>=◌, Answers}
 use Rattle.recording.specs.declared.item.Item.{Item}
+use Rattle.recording.specs.declared.item.TheConstants.{BYTE_LIMIT}
 use Rattle.recording.specs.declared.layout.Layout.{Layout}
 use Rattle.recording.specs.declared.layout.Layout.TheVariants.{Recording, Trace}
 use Rattle.recording.specs.declared.fault.RecordingFault.{RecordingFault}
@@ -41,11 +42,24 @@ slice_bytes = 4
 abbrev pub slice_down : ℕ
 slice_down = 5
 
+-- a frame that was sent to a switch for a slice
+abbrev pub sent_bytes : ℕ
+sent_bytes = 6
+
 -- ---- the form of a record
 
 -- the eight bytes that begin a recording
 abbrev pub magic : List ℕ
 magic = 0x46 ∷ 0x56 ∷ 0x52 ∷ 0x45 ∷ 0x43 ∷ 0 ∷ 0 ∷ 1 ∷ []
+
+-- the eight bytes that begin a trace
+abbrev pub trace_magic : List ℕ
+trace_magic = 0x46 ∷ 0x56 ∷ 0x54 ∷ 0x52 ∷ 0x43 ∷ 0 ∷ 0 ∷ 1 ∷ []
+
+-- the bytes that begin a file
+abbrev pub magic_of : Layout → List ℕ
+magic_of Recording = magic
+magic_of Trace = trace_magic
 
 -- the head of a record: kind, switch, slot, a zero byte, the number of its bytes, and its moment
 unfoldable pub head_spelling : ℕ → ℕ → ℕ → ℕ → ℕ → List ℕ
@@ -66,14 +80,25 @@ item_at bytes at = record {
   size = number_at bytes (at + 4) 4;
 }
 
--- only bytes of a switch and of a slice carry any, at most 16 MiB
-abbrev pub byte_limit : ℕ → ℕ
-byte_limit kind = if kind == switch_bytes || kind == slice_bytes then 16777216 else 0
+-- ---- the two layouts of files of records
 
--- a head of the form: a known kind, one of 16 switches, slot 0 for a switch and a slot of the policy for a slice, a zero byte, and no more bytes than the kind may carry
-abbrev pub is_formed : ℕ → ℕ → Item → Bool
-is_formed slices reserved r =
-    leb r.kind 5 && ltb r.switch 16
+-- a recording has the kinds up to slice_down, and a trace those of a switch and the frames that were sent
+abbrev pub has_kind : Layout → ℕ → Bool
+has_kind Recording kind = leb kind slice_down
+has_kind Trace kind = leb kind switch_down || kind == sent_bytes
+
+-- the kinds whose records carry bytes
+abbrev pub carries_bytes : ℕ → Bool
+carries_bytes kind = kind == switch_bytes || kind == slice_bytes || kind == sent_bytes
+
+-- at most 16 MiB
+abbrev pub byte_limit : ℕ → ℕ
+byte_limit kind = if carries_bytes kind then BYTE_LIMIT else 0
+
+-- a head of the form: a kind of the layout, one of 16 switches, slot 0 for a switch and a slot of the policy for a slice, a zero byte, and no more bytes than the kind may carry
+abbrev pub has_form : Layout → ℕ → ℕ → Item → Bool
+has_form layout slices reserved r =
+    has_kind layout r.kind && ltb r.switch 16
     && (if ltb r.kind slice_up then r.slot == 0 else ltb r.slot slices)
     && reserved == 0
     && leb r.size (byte_limit r.kind)
@@ -102,55 +127,25 @@ fits before r =
     else if r.kind == slice_up then is_switch_open r.switch before && not (is_slice_open r.switch r.slot before)
     else is_slice_open r.switch r.slot before
 
--- ---- the two layouts of files of records
-
--- a frame that was sent to a switch for a slice, in a trace
-abbrev pub sent_bytes : ℕ
-sent_bytes = 6
-
--- the eight bytes that begin a trace
-abbrev pub trace_magic : List ℕ
-trace_magic = 0x46 ∷ 0x56 ∷ 0x54 ∷ 0x52 ∷ 0x43 ∷ 0 ∷ 0 ∷ 1 ∷ []
-
--- a record of a trace carries a frame
-abbrev pub has_frame : ℕ → Bool
-has_frame kind = kind == switch_bytes || kind == sent_bytes
-
--- a head of a trace's form: one of its kinds, one of 16 switches, a slot of the policy for what was sent for a slice and slot 0 else, a zero byte, and bytes only where it carries a frame, at most 16 MiB
-abbrev pub is_trace_formed : ℕ → ℕ → Item → Bool
-is_trace_formed slices reserved r =
-    (leb r.kind switch_down || r.kind == sent_bytes) && ltb r.switch 16
-    && (if r.kind == sent_bytes then ltb r.slot slices else r.slot == 0)
-    && reserved == 0
-    && leb r.size (if has_frame r.kind then 16777216 else 0)
-
--- the bytes of a record are one whole frame: at least a header, whose length counts them all (OpenFlow 1.0.0, section 5.1)
-abbrev pub is_frame_at : List ℕ → Item → Bool
-is_frame_at bytes r = leb 8 r.size && number_at bytes (r.from + 2) 2 == r.size
-
 -- in a trace a switch goes up where it isn't, and all else comes while it is
 abbrev pub fits_trace : List Item → Item → Bool
 fits_trace before r = if r.kind == switch_up then not (is_switch_open r.switch before) else is_switch_open r.switch before
-
--- the bytes that begin a file
-abbrev pub magic_of : Layout → List ℕ
-magic_of Recording = magic
-magic_of Trace = trace_magic
-
--- a head is of the form
-abbrev pub has_form : Layout → ℕ → ℕ → Item → Bool
-has_form Recording slices reserved r = is_formed slices reserved r
-has_form Trace slices reserved r = is_trace_formed slices reserved r
-
--- the bytes of a record are such as its kind carries
-abbrev pub is_whole : Layout → List ℕ → Item → Bool
-is_whole Recording bytes r = true
-is_whole Trace bytes r = not (has_frame r.kind) || is_frame_at bytes r
 
 -- a record may come behind others
 abbrev pub may_follow : Layout → List Item → Item → Bool
 may_follow Recording before r = fits before r
 may_follow Trace before r = fits_trace before r
+
+-- ---- what a record carries
+
+-- the bytes of a record are one whole frame: at least a header, whose length counts them all (OpenFlow 1.0.0, section 5.1)
+abbrev pub is_frame_at : List ℕ → Item → Bool
+is_frame_at bytes r = leb 8 r.size && number_at bytes (r.from + 2) 2 == r.size
+
+-- the bytes of a record are such as its kind carries
+abbrev pub is_whole : Layout → List ℕ → Item → Bool
+is_whole Recording bytes r = true
+is_whole Trace bytes r = not (carries_bytes r.kind) || is_frame_at bytes r
 
 -- ---- reading
 
@@ -251,7 +246,7 @@ all_told at (t ∷ others) = placed_record at t ∷ all_told (at + 16 + length t
 -- each has the form and fits those before it
 unfoldable pub may_be_told : ℕ → List Item → List Item → Bool
 may_be_told slices before [] = true
-may_be_told slices before (r ∷ others) = is_formed slices 0 r && fits before r && may_be_told slices (r ∷ before) others
+may_be_told slices before (r ∷ others) = has_form Recording slices 0 r && fits before r && may_be_told slices (r ∷ before) others
 
 -- a record's bytes
 abbrev pub record_bytes : Told → List ℕ

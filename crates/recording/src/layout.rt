@@ -1,7 +1,7 @@
 //! In what recordings and traces differ: how they begin, and which records they have.
 
 ghost use Rattle.std.specs.Prelude.{◌≡◌, ◌+◌, ◌≤◌, length, OnOk, OnErr, if◌then◌else◌};
-ghost use Rattle.recording.specs.Recordings.{byte_limit, has_form, has_frame, is_formed, is_frame_at, is_trace_formed, is_whole, magic_of};
+ghost use Rattle.recording.specs.Recordings.{byte_limit, carries_bytes, has_form, has_kind, is_frame_at, is_whole, magic_of};
 
 use crate::item::{
     BYTE_LIMIT, Item, MAGIC, SENT_BYTES, SLICE_BYTES, SLICE_DOWN, SLICE_UP, SWITCH_BYTES,
@@ -19,64 +19,22 @@ pub enum Layout {
     Trace,
 }
 
-/// How many bytes a record of the kind may carry in a recording.
-fn limit(kind: u8) -> usize
+/// Whether the records of the kind carry bytes.
+fn carries_bytes(kind: u8) -> bool
+    ensures { result ≡ carries_bytes kind }
+{
+    kind == SWITCH_BYTES || kind == SLICE_BYTES || kind == SENT_BYTES
+}
+
+/// How many bytes a record of the kind may carry.
+fn byte_limit(kind: u8) -> usize
     ensures { result ≡ byte_limit kind }
 {
-    match kind {
-        SWITCH_BYTES | SLICE_BYTES => BYTE_LIMIT as usize,
-        _ => 0,
-    }
-}
-
-/// Whether a head is of a recording's form, under a policy of so many slices.
-fn is_formed(slices: u8, reserved: u8, item: &Item) -> bool
-    ensures { result ≡ is_formed slices reserved item.now }
-{
-    let slot_fits = if item.kind < SLICE_UP {
-        item.slot == 0
-    } else {
-        item.slot < slices
-    };
-    item.kind <= SLICE_DOWN
-        && usize::from(item.switch) < SWITCHES
-        && slot_fits
-        && reserved == 0
-        && item.size <= limit(item.kind)
-}
-
-/// Whether a record of a trace carries a frame.
-fn has_frame(kind: u8) -> bool
-    ensures { result ≡ has_frame kind }
-{
-    kind == SWITCH_BYTES || kind == SENT_BYTES
-}
-
-/// How many bytes a record of the kind may carry in a trace.
-fn trace_limit(kind: u8) -> usize
-    ensures { result ≡ (if has_frame kind then 16777216 else 0) }
-{
-    if has_frame(kind) {
+    if carries_bytes(kind) {
         BYTE_LIMIT as usize
     } else {
         0
     }
-}
-
-/// Whether a head is of a trace's form, under a policy of so many slices.
-fn is_trace_formed(slices: u8, reserved: u8, item: &Item) -> bool
-    ensures { result ≡ is_trace_formed slices reserved item.now }
-{
-    let slot_fits = if item.kind == SENT_BYTES {
-        item.slot < slices
-    } else {
-        item.slot == 0
-    };
-    (item.kind <= SWITCH_DOWN || item.kind == SENT_BYTES)
-        && usize::from(item.switch) < SWITCHES
-        && slot_fits
-        && reserved == 0
-        && item.size <= trace_limit(item.kind)
 }
 
 /// Whether a record's bytes are one whole frame.
@@ -98,14 +56,30 @@ impl Layout {
         }
     }
 
+    /// Whether a file has records of the kind.
+    fn has_kind(self, kind: u8) -> bool
+        ensures { result ≡ has_kind self kind }
+    {
+        match self {
+            Layout::Recording => kind <= SLICE_DOWN,
+            Layout::Trace => kind <= SWITCH_DOWN || kind == SENT_BYTES,
+        }
+    }
+
     /// Whether a head is of the form, under a policy of so many slices.
     pub(crate) fn has_form(self, slices: u8, reserved: u8, item: &Item) -> bool
         ensures { result ≡ has_form self slices reserved item.now }
     {
-        match self {
-            Layout::Recording => is_formed(slices, reserved, item),
-            Layout::Trace => is_trace_formed(slices, reserved, item),
-        }
+        let slot_fits = if item.kind < SLICE_UP {
+            item.slot == 0
+        } else {
+            item.slot < slices
+        };
+        self.has_kind(item.kind)
+            && usize::from(item.switch) < SWITCHES
+            && slot_fits
+            && reserved == 0
+            && item.size <= byte_limit(item.kind)
     }
 
     /// Whether the bytes of a record are such as its kind carries.
@@ -115,7 +89,7 @@ impl Layout {
     {
         match self {
             Layout::Recording => true,
-            Layout::Trace => !has_frame(item.kind) || is_frame_at(bytes, item),
+            Layout::Trace => !carries_bytes(item.kind) || is_frame_at(bytes, item),
         }
     }
 }

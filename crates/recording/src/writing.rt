@@ -1,4 +1,7 @@
+//! Files of records are written.
+
 ghost use Rattle.std.specs.Prelude.{◌≡◌, ◌<◌, ◌≤◌, ◌++◌, OnOk, OnErr, length, take};
+ghost use Rattle.recording.specs.declared.item.TheConstants.{BYTE_LIMIT};
 ghost use Rattle.recording.specs.Recordings.{magic, trace_magic, head_spelling, record_spelling};
 
 use crate::item::{MAGIC, TRACE_MAGIC};
@@ -47,7 +50,7 @@ fn put_item(
     moment: u64,
     bytes: &[u8],
 ) -> Result<(), AllocError>
-    requires { length bytes.now ≤ 16777216 }
+    requires { length bytes.now ≤ BYTE_LIMIT }
     ensures ok { OnOk result (out.new.items ≡ out.old.items ++ record_spelling kind switch slot moment bytes.now) }
     ensures err { OnErr result (take (length out.old.items) out.new.items ≡ out.old.items) }
 {
@@ -67,7 +70,7 @@ pub fn add_item(
 ) -> Result<(), AllocError>
     requires switch { switch < 16 }
     requires slot { slot < 32 }
-    requires size { length bytes.now ≤ 16777216 }
+    requires size { length bytes.now ≤ BYTE_LIMIT }
     ensures ok { OnOk result (out.new.items ≡ out.old.items ++ record_spelling kind switch slot moment bytes.now) }
     ensures err { OnErr result (out.new.items ≡ out.old.items) }
 {

@@ -10,10 +10,10 @@ use Rattle.of10_ctl.specs.Frames.{IsFrame}
 use Rattle.of10_ctl.proofs.Cutting.{length_field-take}
 use Rattle.recording.specs.declared.item.Item.{Item}
 use Rattle.recording.specs.declared.layout.Layout.TheVariants.{Trace}
-use Rattle.recording.specs.Recordings.{IsRead, has_frame, is_frame_at}
+use Rattle.recording.specs.Recordings.{IsRead, carries_bytes, is_frame_at}
 use Rattle.desk_words.specs.Recorded.{bytes_carried}
 
-pub carried_frame : (slices : ℕ) (file : List ℕ) (r : Item) → ((k : ℕ) → slice_index file k < 256) → IsRead Trace slices file r → has_frame r.kind ≡ true → IsFrame (bytes_carried file r)
+pub carried_frame : (slices : ℕ) (file : List ℕ) (r : Item) → ((k : ℕ) → slice_index file k < 256) → IsRead Trace slices file r → carries_bytes r.kind ≡ true → IsFrame (bytes_carried file r)
 carried_frame slices file r bytes read has =
     let whole : is_frame_at file r ≡ true = subst (λ (b : Bool). (not b || is_frame_at file r) ≡ true) has read.whole in
     let parts = and_parts (leb 8 r.size) (number_at file (r.from + 2) 2 == r.size) whole in

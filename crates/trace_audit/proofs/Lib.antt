@@ -7,7 +7,6 @@ pub mod Hearing
 pub mod Sessions
 pub mod Frames
 pub mod Taking
-pub mod Walking
 pub mod Running
 pub mod Whole
 pub mod Readable

@@ -17,7 +17,7 @@ use Rattle.recording.specs.declared.fault.RecordingFault.{RecordingFault}
 use Rattle.trace_audit.specs.Sessions.{session_of, EachSent}
 use Rattle.trace_audit.specs.Facts.{KeepsSlice}
 use Rattle.trace_audit.proofs.Frames.{carried_frame}
-use Rattle.trace_audit.proofs.Walking.{AreLeft, left_first, next_of, none_left}
+use Rattle.recording.proofs.Left.{AreLeft, left_first, next_of, none_left}
 use Rattle.trace_audit.proofs.Sent.{message_passed}
 
 -- a record with which nothing is wrong, and which isn't the first of those left
@@ -90,21 +90,21 @@ module _ (slices : ℕ) (file : List ℕ) (bytes : (k : ℕ) → slice_index fil
   frames_with item items one others [] r later is = subst HasFrame (let same : told_from item ≡ r = cc in same) one
   frames_with item items one others (x ∷ front) r later is = others front r later (let same : map told_from items ≡ front ++ r ∷ later = cc in same)
 
-  left_frames : (items : List Item) (at : ℕ) → AreLeft slices file at items → HaveFrames (map told_from items)
+  left_frames : (items : List Item) (at : ℕ) → AreLeft Trace slices file at items → HaveFrames (map told_from items)
   left_frames [] at left = λ front r later is. absurd (nothing_in front r later is)
   left_frames (item ∷ items) at left =
       elim (cases_lt at (length file)) [
         | inl more ↦
-            let next = next_of slices file at (item ∷ items) more left in
+            let next = next_of Trace slices file at (item ∷ items) more left in
             let same : item_at file at ≡ item = let is = next.is in cc in
             let rest : next.others ≡ items = let is = next.is in cc in
-            let later = left_frames items ((item_at file at).from + (item_at file at).size) (subst (AreLeft slices file ((item_at file at).from + (item_at file at).size)) rest next.later) in
+            let later = left_frames items ((item_at file at).from + (item_at file at).size) (subst (AreLeft Trace slices file ((item_at file at).from + (item_at file at).size)) rest next.later) in
             frames_with item items (sent_frame item (subst (IsRead Trace slices file) same next.item)) later
-        | inr end ↦ absurd (let none = none_left slices file at (item ∷ items) end left in cc)
+        | inr end ↦ absurd (let none = none_left Trace slices file at (item ∷ items) end left in cc)
       ]
 
   pub all_frames : (items : List Item) → read_trace slices file ≡ Ok items → HaveFrames (map told_from items)
-  all_frames items read = left_frames items 8 (left_first slices file items read)
+  all_frames items read = left_frames items 8 (left_first Trace slices file items read)
 
 -- ---- the answer
 
