@@ -33,7 +33,7 @@ map_later : {X Y : Type 0} (f : ℕ × X → Y) (n : ℕ) (xs : List X) → map 
 map_later f n [] = refl
 map_later f n (x ∷ xs) = ap (λ (k : ℕ). f (suc n, x) ∷ map f (enumerate_from k xs)) (one_more n) ∙ ap (λ rest. f (suc n, x) ∷ rest) (map_later f (n + 1) xs)
 
-enumerate_both : {X : Type 0} (n : ℕ) (xs ys : List X) → enumerate_from n (xs ++ ys) ≡ enumerate_from n xs ++ enumerate_from (n + length xs) ys
+pub enumerate_both : {X : Type 0} (n : ℕ) (xs ys : List X) → enumerate_from n (xs ++ ys) ≡ enumerate_from n xs ++ enumerate_from (n + length xs) ys
 enumerate_both n [] ys = ap (λ (k : ℕ). enumerate_from k ys) (let none : n ≡ n + 0 = omega arith in none)
 enumerate_both n (x ∷ xs) ys =
     ap (λ rest. (n, x) ∷ rest) (enumerate_both (n + 1) xs ys)

@@ -5,6 +5,7 @@ use Rattle.std.proofs.lemmas.Grind.{flat_map-append}
 use Rattle.flowspace.specs.Policies.{PolicyView}
 use Rattle.recording.specs.Recordings.{Told}
 use Rattle.desk_words.specs.Recorded.{Happened, all_happened}
+use Rattle.desk_words.proofs.Reporting.{enumerate_both}
 use Rattle.desk_words.specs.Reports.{Line, lines_at, lines_from, all_lines}
 use Rattle.event_player.specs.declared.fault.ReportFault.{ReportFault}
 use Rattle.event_player.specs.declared.fault.ReportFault.TheVariants.{Memory}
@@ -13,12 +14,6 @@ use Rattle.event_player.specs.Telling.{Cue, Comes, Says, Outcome, ToldWhole, Hea
 use Rattle.event_player.specs.Players.{Scene, HasTold}
 
 -- ---- numbered events
-
-enumerate_both : {X : Type 0} (n : ℕ) (xs ys : List X) → enumerate_from n (xs ++ ys) ≡ enumerate_from n xs ++ enumerate_from (n + length xs) ys
-enumerate_both n [] ys = ap (λ (k : ℕ). enumerate_from k ys) (let none : n ≡ n + 0 = omega arith in none)
-enumerate_both n (x ∷ xs) ys =
-    ap (λ rest. (n, x) ∷ rest) (enumerate_both (n + 1) xs ys)
-    ∙ ap (λ (k : ℕ). (n, x) ∷ (enumerate_from (n + 1) xs ++ enumerate_from k ys)) (let k : n + 1 + length xs ≡ n + length (x ∷ xs) = omega arith in k)
 
 -- of events and of those behind them
 pub cues_from_both : (policy : PolicyView) (number : ℕ) (first second : List Happened) → cues_from policy number (first ++ second) ≡ cues_from policy number first ++ cues_from policy (number + length first) second

@@ -62,7 +62,7 @@ flooded_own rs slot all known =
     (All-weaker (λ port. own port ≡ true) OwnsPort (λ port is. (has_port-iff rs slot (port_number port)).0 is) (ports_of_slice rs slot known) (filter_passes own known)))
 
 -- where an action of a piece may send, it names a port of the slice, IN_PORT or CONTROLLER
-named : (rs : List Rule) (slot : ℕ) (piece : Pattern) (action : Action) → HasWay rs slot (Piece piece) action → NamesOwnPort rs slot action
+pub named : (rs : List Rule) (slot : ℕ) (piece : Pattern) (action : Action) → HasWay rs slot (Piece piece) action → NamesOwnPort rs slot action
 named rs slot piece (Output port max_len) (inl (inl own)) = inl own
 named rs slot piece (Output port max_len) (inl (inr back)) = inr (inl back.0)
 named rs slot piece (Output port max_len) (inr controller) = inr (inr controller)

@@ -33,7 +33,7 @@ use Rattle.action_check.specs.declared.origin.Origin.TheVariants.{Piece, Packet,
 use Rattle.action_check.specs.Soundness.{HasWay}
 use Rattle.flow_facts.specs.PacketOuts.{carried_header, MayComeBy, CarriesWritten, SendsToOwnPort, SendsProbeToOwnPort}
 use Rattle.flow_facts.specs.FlowMods.{LiesInFlowspace, NamesOwnPort, OutputsToOwnPorts}
-use Rattle.lane_laws.proofs.Own.{named_out, named_probe}
+use Rattle.lane_laws.proofs.Own.{named, named_out, named_probe}
 use Rattle.lane_laws.proofs.Sent.{leaves}
 use Rattle.trace_audit.specs.declared.why.Why.TheVariants as why
 use Rattle.trace_audit.specs.Judging.{is_written, is_written_header, action_code, kind_why, space_why, packet_why, buffer_why, action_why, flow_mod_why, is_marked, may_come, carried_space_why, entry_why, carried_origin, carried_why, held_why, packet_out_why}
@@ -63,23 +63,6 @@ lies_in : (ss : List Slice) (rs : List Rule) → IsSwitchPolicy ss rs → (slot 
 lies_in ss rs policy slot m e h range in_m =
     let owns = owned rs slot m.pattern (not_false (is_written rs slot m.pattern) (when_None (not (is_written rs slot m.pattern)) why.Space e)) in
     (Writes-iff ss rs policy slot h range).1 (owns.0, owns.1, owns.2, owns.3, (owns.4.0, owns.4.1 h range in_m))
-
-named : (rs : List Rule) (slot : ℕ) (piece : Pattern) (action : Action) → HasWay rs slot (Piece piece) action → NamesOwnPort rs slot action
-named rs slot piece (Output port max_len) (inl (inl own)) = inl own
-named rs slot piece (Output port max_len) (inl (inr back)) = inr (inl back.0)
-named rs slot piece (Output port max_len) (inr controller) = inr (inr controller)
-named rs slot piece (Enqueue port queue) (inl own) = inl own
-named rs slot piece (Enqueue port queue) (inr back) = inr back.0
-named rs slot piece (SetVlanVid vlan) way = tt
-named rs slot piece (SetVlanPcp priority) way = tt
-named rs slot piece StripVlan way = tt
-named rs slot piece (SetDlSrc address) way = tt
-named rs slot piece (SetDlDst address) way = tt
-named rs slot piece (SetNwSrc address) way = tt
-named rs slot piece (SetNwDst address) way = tt
-named rs slot piece (SetNwTos service) way = tt
-named rs slot piece (SetTpSrc port) way = tt
-named rs slot piece (SetTpDst port) way = tt
 
 outputs_to : (rs : List Rule) (slot : ℕ) (m : FlowMod) → action_why rs slot m ≡ None → is_delete m ≡ false → OutputsToOwnPorts rs slot m
 outputs_to rs slot m e keeps =
