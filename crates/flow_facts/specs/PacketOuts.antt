@@ -6,6 +6,7 @@ use Rattle.of10_action.specs.declared.action.Action.TheVariants.{Output}
 use Rattle.of10_port.specs.declared.protocol.TheConstants.{IN_PORT, TABLE, CONTROLLER, NONE}
 use Rattle.of10_flow.specs.declared.protocol.TheConstants.{NO_BUFFER}
 use Rattle.of10_flow.specs.declared.packet_out.PacketOut.{PacketOut}
+use Rattle.frame_header.specs.declared.probe.TheConstants.{LLDP}
 use Rattle.frame_header.specs.Headers.{header_of_packet}
 use Rattle.frame_header.specs.Probes.{IsProbe}
 use Rattle.flowspace.specs.declared.rules.Rule.{Rule}
@@ -22,7 +23,7 @@ carried_header m = header_of_packet m.in_port m.payload
 
 -- a probe carries a packet of LLDP, by which a controller finds the links between switches
 abbrev pub is_probe : PacketOut → Bool
-is_probe m = m.buffer == NO_BUFFER && (carried_header m).dl_type == 0x88cc
+is_probe m = m.buffer == NO_BUFFER && (carried_header m).dl_type == LLDP
 
 -- ---- what it sends
 

@@ -38,18 +38,18 @@ EndsIn-trailer_slot bytes slot (front, e) =
     rw (e, last_eight-trailer front slot, same) refl
 
 -- the type is the header's, on whichever port the packet came in
-IsProbe-from : (bytes : List ℕ) (slot : ℕ) → dl_type_of bytes ≡ 0x88cc → EndsIn bytes slot → IsProbe bytes slot
+IsProbe-from : (bytes : List ℕ) (slot : ℕ) → dl_type_of bytes ≡ LLDP → EndsIn bytes slot → IsProbe bytes slot
 unfolding header_of_packet
 IsProbe-from bytes slot kind marked = record { lldp = λ in_port. kind; marked = marked }
 
-IsProbe-kind : (bytes : List ℕ) (slot : ℕ) → IsProbe bytes slot → dl_type_of bytes ≡ 0x88cc
+IsProbe-kind : (bytes : List ℕ) (slot : ℕ) → IsProbe bytes slot → dl_type_of bytes ≡ LLDP
 unfolding header_of_packet
 IsProbe-kind bytes slot p = p.lldp 0
 
 slot-IsProbe : (bytes : List ℕ) (slot : ℕ) → probe_slot_of bytes ≡ Some slot → IsProbe bytes slot
 unfolding probe_slot_of
 slot-IsProbe bytes slot e =
-    let found = passed (dl_type_of bytes == 0x88cc) (trailer_slot bytes) slot e in
+    let found = passed (dl_type_of bytes == LLDP) (trailer_slot bytes) slot e in
     IsProbe-from bytes slot (eqb-true _ _ found.0) (trailer_slot-EndsIn bytes slot found.1)
 
 IsProbe-slot : (bytes : List ℕ) (slot : ℕ) → IsProbe bytes slot → probe_slot_of bytes ≡ Some slot

@@ -20,7 +20,8 @@ use crate::held::packet_at;
 use crate::ports::floods_for;
 use action_check::{Origin, writes_by_some_port};
 use buffer_map::Held;
-use frame_header::{LLDP, header_of, probe_trailer};
+use flow_facts::packet_out::{carried_header, is_probe};
+use frame_header::probe_trailer;
 use of10_action::error::{
     BAD_ACTION, BAD_REQUEST, REQUEST_NOT_PERMITTED, TOO_MANY_ACTIONS, UNKNOWN_BUFFER,
 };
@@ -28,7 +29,6 @@ use of10_action::{Actions, Bytes, list_size};
 use of10_ctl::Frame;
 use of10_flow::PacketOut;
 use of10_flow::protocol::NO_BUFFER;
-use of10_match::Header12;
 use of10_port::protocol::{CONTROLLER, NONE};
 use std::alloc::{AllocError, Global};
 
@@ -54,19 +54,6 @@ fn is_buffered(m: &PacketOut) -> bool
     ensures { result ≡ is_buffered_out m.now }
 {
     m.buffer != NO_BUFFER
-}
-
-/// The header of the packet that it carries itself.
-fn carried_header(m: &PacketOut) -> Header12
-    ensures { result ≡ carried_header m.now }
-{
-    header_of(m.in_port, m.payload.as_slice())
-}
-
-fn is_probe(m: &PacketOut) -> bool
-    ensures { result ≡ is_probe m.now }
-{
-    m.buffer == NO_BUFFER && carried_header(m).dl_type == LLDP
 }
 
 /// Whether it names a packet that isn't held.

@@ -1,14 +1,14 @@
 //! What is wrong with one message that was sent for a slice.
 
 ghost use Rattle.std.specs.Prelude.{◌≡◌, true, is_some, IfOk};
-ghost use Rattle.flow_facts.specs.PacketOuts.{carried_header};
 ghost use Rattle.trace_audit.specs.Judging.{is_written, is_written_header, is_marked, may_come, packet_why, buffer_why, carried_origin, carried_why, held_why, flow_mod_why, packet_out_why};
 
 use crate::actions::action_code;
 use crate::why::Why;
 use action_check::{Origin, writes_by_some_port};
+use flow_facts::packet_out::carried_header;
 use flowspace::SwitchPolicy;
-use frame_header::{header_of, probe_slot};
+use frame_header::probe_slot;
 use of10_flow::protocol::{DELETE_STRICT, NO_BUFFER};
 use of10_flow::{FlowMod, PacketOut};
 use of10_match::{Header12, Match};
@@ -103,13 +103,6 @@ fn may_come(policy: &SwitchPolicy, slot: u8, port: u16) -> bool
     ensures { result ≡ may_come policy.now.rules slot port }
 {
     policy.has_port(slot, port) || port == NONE || port == CONTROLLER
-}
-
-/// The header of the packet that it carries.
-fn carried_header(m: &PacketOut) -> Header12
-    ensures { result ≡ carried_header m.now }
-{
-    header_of(m.in_port, m.payload.as_slice())
 }
 
 /// What the actions of a packet-out that carries its packet are applied to.
