@@ -1,3 +1,5 @@
+//! Which lists of actions a slice may send, and the first fault of one that it may not.
+
 ghost use Rattle.std.specs.Prelude.{ℕ, ◌≡◌, ◌≤◌, List, length, Ok, IfOk, IsTrue};
 ghost use Rattle.flowspace.specs.declared.rules.Rule.{Rule};
 ghost use Rattle.std.specs.List.{All};

@@ -1,3 +1,5 @@
+//! The codes with which a list of actions is refused.
+
 /// The code of an action that sends where it may not (OpenFlow 1.0.0, section 5.4.4: OFPBAC_BAD_OUT_PORT).
 pub const BAD_OUT_PORT: u16 = 4;
 

@@ -1,3 +1,5 @@
+//! What the actions of a list are applied to.
+
 ghost use Rattle.std.specs.Prelude.{◌≡◌};
 ghost use Rattle.of10_action.specs.Actions.{HasAddress};
 ghost use Rattle.action_check.specs.Origins.{image_after};

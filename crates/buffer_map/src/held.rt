@@ -1,3 +1,5 @@
+//! A packet that the switch holds.
+
 use of10_match::Header12;
 
 /// A packet that the switch buffers, of which a slice was told.

@@ -1,3 +1,5 @@
+//! The packets that the switch holds for a slice, under the slice's numbers.
+
 ghost use Rattle.std.specs.Prelude.{ℕ, ◌≡◌, ◌+◌, ◌%◌, ◌^◌, ◌<◌, ◌==◌, not, List, [], ◌∷◌, filter, position, IfOk};
 ghost use Rattle.std.specs.List.{list_any};
 ghost use Rattle.of10_model.specs.Header.{Header};

@@ -1,4 +1,4 @@
--- What is told of a recording, line by line, and who hears it (this proxy's own rule).
+-- What is told of a recording, cue by cue, and who hears it (this proxy's own rule).
 use Rattle.std.specs.List.{flat_map, enumerate_from}
 use Rattle.std.specs.Prelude.{ℕ, ◌≡◌, ◌⊎◌, Bool, List, [], ◌∷◌, ◌++◌, map, Option, Some, None, Result, Ok, Err}
 use Rattle.flowspace.specs.Policies.{PolicyView}
@@ -60,7 +60,7 @@ lines_in_parts policy place h slices lane speaking closed =
 
 -- ---- who hears
 
--- how it went with a line: it was told whole, or a fault broke it off
+-- how it went with a cue: it was told whole, or a fault broke it off
 abbrev pub Outcome : Type 0
 Outcome = Result (Unit {0}) ReportFault
 
@@ -69,16 +69,16 @@ abbrev pub ToldWhole : {T C : Type 0} → (T → C → Outcome → T → Type 0)
 ToldWhole Tells old [] new = new ≡ old
 ToldWhole {T} Tells old (first ∷ others) new = (next : T) × Tells old first (Ok tt) next × ToldWhole Tells next others new
 
--- by the first of these lines, until a fault: one broke a line off, or memory ran out where none was told
+-- by the first of these cues, until a fault: it broke one off, or memory ran out where none was told
 abbrev pub HeardPart : {T C : Type 0} → (T → C → Outcome → T → Type 0) → ReportFault → T → List C → T → Type 0
 HeardPart Tells fault old [] new = (new ≡ old) × (fault ≡ Memory)
 HeardPart {T} Tells fault old (first ∷ others) new =
     ((new ≡ old) × (fault ≡ Memory)) ⊎ (Tells old first (Err fault) new ⊎ ((next : T) × Tells old first (Ok tt) next × HeardPart Tells fault next others new))
 
--- all of these lines were told; at a fault the first of them
+-- all of these cues were told; at a fault the first of them
 abbrev pub Tell : {A T C : Type 0} → (T → C → Outcome → T → Type 0) → Result A ReportFault → List C → T → T → Type 0
-Tell Tells (Ok value) lines old new = ToldWhole Tells old lines new
-Tell Tells (Err fault) lines old new = HeardPart Tells fault old lines new
+Tell Tells (Ok value) cues old new = ToldWhole Tells old cues new
+Tell Tells (Err fault) cues old new = HeardPart Tells fault old cues new
 
 -- by a line alone
 abbrev pub says : {T : Type 0} → (T → Cue → Outcome → T → Type 0) → T → Line → Outcome → T → Type 0
@@ -89,7 +89,7 @@ abbrev pub ByLine : {T : Type 0} → (T → Line → Outcome → T → Type 0) �
 ByLine Tells old (Comes policy number one) outcome new = (outcome ≡ Ok tt) × (new ≡ old)
 ByLine Tells old (Says line) outcome new = Tells old line outcome new
 
--- the lines of what is told
+-- the lines among cues
 abbrev pub line_in : Cue → List Line
 line_in (Comes policy number one) = []
 line_in (Says line) = line ∷ []

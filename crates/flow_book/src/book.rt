@@ -1,3 +1,5 @@
+//! The entries that a slice has booked.
+
 ghost use Rattle.std.specs.Prelude.{◌≡◌, ◌≢◌, ◌+◌, ◌^◌, ◌<◌, ◌≤◌, List, [], ◌∷◌, length, find, slice_get, AllPairs, OnOk, OnErr, if◌then◌else◌};
 ghost use Rattle.flow_book.specs.declared.booked.Booked.{Booked as BookedPair};
 ghost use Rattle.flow_book.specs.Order.{ArePairsInOrder, IsBookOf};

@@ -1,3 +1,5 @@
+//! One booked entry.
+
 use of10_match::Match;
 
 /// A pair of a match and a priority that a slice's flow-mods asked a switch to keep.

@@ -1,3 +1,5 @@
+//! All that is kept of one slice on one switch.
+
 ghost use Rattle.std.specs.Prelude.{◌≤◌, IfOk};
 ghost use Rattle.flow_book.specs.States.{IsFreshState};
 

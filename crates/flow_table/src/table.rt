@@ -1,3 +1,5 @@
+//! A flow table as a plain list.
+
 ghost use Rattle.std.specs.Prelude.{◌≡◌, ◌↔◌, ◌<◌, [], length, slice_index_or, IfOk, OnErr, IsTrue};
 ghost use Rattle.std.specs.List.{remove};
 ghost use Rattle.of10_flow.specs.declared.flow_entry.FlowEntry.{FlowEntry as Entry};

@@ -1,3 +1,5 @@
+//! Why the messages of a flow-mod were not made.
+
 /// Why the messages of a flow-mod were not made.
 #[derive(Clone, Copy, Debug, PartialEq, Eq)]
 pub enum BuildFault {

@@ -1,3 +1,5 @@
+//! Why a policy isn't accepted.
+
 use std::fmt;
 
 /// What a policy has too many of.

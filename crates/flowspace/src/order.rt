@@ -1,3 +1,5 @@
+//! The order of rules.
+
 ghost use Rattle.std.specs.Prelude.{ℕ, List, ◌≡◌, IfOk, filter};
 ghost use Rattle.flowspace.specs.declared.rules.Rule.{Rule as RuleView};
 ghost use Rattle.flowspace.specs.Rules.{holds};

@@ -1,3 +1,5 @@
+//! An accepted policy.
+
 ghost use Rattle.std.specs.Prelude.{◌≡◌, ◌≤◌, length, All, IfOk, IfSome, Err};
 ghost use Rattle.flowspace.specs.Slices.{IsPlainSlice, slot_named};
 ghost use Rattle.flowspace.specs.Rules.{IsPlainRule};

@@ -1,3 +1,5 @@
+//! Rules, and what a rule may constrain.
+
 ghost use Rattle.std.specs.Prelude.{◌≡◌, IfSome, IsTrue};
 ghost use Rattle.of10_model.specs.Normal.{bit};
 ghost use Rattle.flowspace.specs.Rules.{first_improper, holds, is_written_by, IsInPort, IsVlan, is_vlan, IsPlainRule};

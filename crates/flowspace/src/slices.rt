@@ -1,3 +1,5 @@
+//! Slices, and what they may be called.
+
 ghost use Rattle.std.specs.Prelude.{◌≡◌, ◌<◌, ◌≤◌, length, IfOk, IfSome, IsTrue};
 ghost use Rattle.std.specs.List.{list_all};
 ghost use Rattle.flowspace.specs.Slices.{is_controller, is_name, is_name_byte, IsPlainSlice, slot_named};

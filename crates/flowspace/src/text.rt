@@ -1,3 +1,5 @@
+//! A text that is seen as its bytes.
+
 ghost use Rattle.std.specs.Prelude.{◌≡◌, IfOk};
 
 use std::alloc::{AllocError, Global};

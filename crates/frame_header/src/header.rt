@@ -1,3 +1,5 @@
+//! The header of a packet.
+
 ghost use Rattle.std.specs.Prelude.{◌≡◌};
 ghost use Rattle.of10_model.specs.Header.{IsHeader};
 ghost use Rattle.frame_header.specs.Headers.{header_of_packet, dl_type_of};

@@ -1,3 +1,5 @@
+//! The drawn records of a made recording.
+
 ghost use Rattle.std.specs.Prelude.{◌≡◌, ◌≤◌, ◌<◌, ◌-◌, ◌++◌, IfOk, OnOk, flat_map};
 ghost use Rattle.recording.specs.Recordings.{record_bytes};
 ghost use Rattle.fv_generator.specs.Drawing.{Drew};

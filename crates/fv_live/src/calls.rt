@@ -1,4 +1,4 @@
-// Which calls on an object in memory fail.
+//! Which calls on an object in memory fail.
 
 ghost use Rattle.std.specs.Prelude.{◌≡◌};
 ghost use Rattle.fv_live.specs.Calls.{NoCallYet, fails_next, one_call_more};

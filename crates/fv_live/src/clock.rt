@@ -1,4 +1,4 @@
-// What tells the time.
+//! What tells the time.
 
 ghost use Rattle.std.specs.Prelude.{◌≡◌, ◌<◌, ℕ, List, [], ◌∷◌, Option, Some, None, length, drop, vec_len};
 ghost use Rattle.fv_live.specs.Live.{WasAsked};

@@ -1,4 +1,4 @@
-// What connects to controllers.
+//! What connects to controllers.
 
 ghost use Rattle.std.specs.Prelude.{◌≡◌, ◌≤◌, ℕ, List, Option, Some, false, IsTrue, IsFalse, IfSome, OnOk, OnErr};
 ghost use Rattle.std.specs.Str.{bytes_eq};

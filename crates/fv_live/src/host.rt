@@ -1,4 +1,4 @@
-// The runtime that calls on connections and threads are passed.
+//! The runtime that calls on connections and threads are passed.
 
 use std::rt::Clock;
 use std::sync::Wait;

@@ -1,4 +1,4 @@
-// Links that diallers in memory share.
+//! Links that diallers in memory share.
 
 ghost use Rattle.std.specs.Prelude.{◌≡◌};
 ghost use Rattle.fv_live.specs.Links.{first_link, place_of_link, without_link};

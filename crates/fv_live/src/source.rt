@@ -1,4 +1,4 @@
-// Where bytes come from.
+//! Where bytes come from.
 
 ghost use Rattle.std.specs.Prelude.{◌≡◌, ◌≤◌, ◌<◌, ℕ, List, [], Option, Some, None, length, drop, take, min, option_map, vec_len, IfOk, IfSome, OnOk, OnErr};
 ghost use Rattle.std.specs.Result.{result_ok};

@@ -1,4 +1,4 @@
-// What runs beside the others, on a thread of its own.
+//! What runs beside the others, on a thread of its own.
 
 ghost use Rattle.std.specs.Prelude.{◌≡◌, ◌≤◌, ◌<◌, ◌+◌, ◌∷◌, [], ℕ, List, Option, Some, false, map, vec_len, vec_capacity, IsTrue, OnOk, OnErr};
 ghost use Rattle.fv_base.specs.Counts.{one_more};

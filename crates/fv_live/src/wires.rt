@@ -1,4 +1,4 @@
-// What switches connect to.
+//! What switches connect to.
 
 ghost use Rattle.std.specs.Prelude.{◌≡◌, ◌≤◌, ◌+◌, ◌-◌, ◌^◌, ◌∷◌, [], ℕ, List, Option, Some, None, Bool, true, false, is_some, IsTrue, IsFalse, IfOk, IfSome, OnOk, OnErr};
 ghost use Rattle.std.specs.Arc.{arc_value};

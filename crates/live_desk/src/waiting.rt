@@ -1,4 +1,4 @@
-// Who is to be woken. None of it has a clause: nothing is claimed of waking.
+//! Who is to be woken. None of it has a clause: nothing is claimed of waking.
 
 use proxy_core::{Desk, Dest};
 use std::sync::atomic::{AtomicU64, Ordering};

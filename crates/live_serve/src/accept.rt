@@ -1,4 +1,4 @@
-// Connections are accepted one after another, and sessions of them begun.
+//! Connections are accepted one after another, and sessions of them begun.
 
 ghost use Rattle.std.specs.Prelude.{◌≡◌, ◌≤◌, map, true, IsTrue, OnOk, OnErr, IfErr};
 ghost use Rattle.fv_base.specs.Told.{Rose};

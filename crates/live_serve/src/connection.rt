@@ -1,4 +1,4 @@
-// What the works of one connection share. None of the waiting has a clause.
+//! What the works of one connection share. None of the waiting has a clause.
 
 ghost use Rattle.std.specs.Prelude.{◌≡◌, ◌^◌, IfOk};
 ghost use Rattle.std.specs.Arc.{arc_value};

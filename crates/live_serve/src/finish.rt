@@ -1,4 +1,4 @@
-// How a call of `serve` ends.
+//! How a call of `serve` ends.
 
 ghost use Rattle.std.specs.Prelude.{◌≡◌};
 ghost use Rattle.fv_cli.specs.Endings.{IsPut};

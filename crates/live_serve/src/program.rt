@@ -1,4 +1,4 @@
-// The program's call `serve`.
+//! The program's call `serve`.
 
 ghost use Rattle.std.specs.Prelude.{◌≡◌, map, false};
 ghost use Rattle.fv_base.specs.Words.{form_of};

@@ -1,4 +1,4 @@
-// Waiting for what other threads do. None of it has a clause: nothing is claimed of waking.
+//! Waiting for what other threads do. None of it has a clause: nothing is claimed of waking.
 
 use crate::side::Side;
 use crossbeam_utils::CachePadded;

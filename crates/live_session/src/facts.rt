@@ -1,4 +1,4 @@
-// What the functions of a reader are lent together.
+//! What the functions of a reader are lent together.
 
 use crate::bells::Bells;
 use crate::gate::Gate;

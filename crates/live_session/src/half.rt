@@ -1,4 +1,4 @@
-// Handing the writing half of a link to its writer. None of it has a clause.
+//! Handing the writing half of a link to its writer. None of it has a clause.
 
 use std::alloc::{AllocError, Global};
 use std::sync::{Condvar, Mutex, Wait};

@@ -1,5 +1,5 @@
-// When a reader has the desk to itself, and when others have their turn. None of it has a clause: nothing is claimed
-// of waking.
+//! When a reader has the desk to itself, and when others have their turn. None of it has a clause: nothing is claimed
+//! of waking.
 
 use crate::bells::Bells;
 use crate::side::Side;

@@ -1,3 +1,5 @@
+//! Why a slice isn't divided.
+
 use flowspace::PolicyFault;
 
 /// Why a slice isn't divided. Each is told only where none of those before it holds.

@@ -1,3 +1,5 @@
+//! Actions, and lists of them (OpenFlow 1.0.0, section 5.2.4).
+
 ghost use Rattle.std.specs.Prelude.{◌≡◌, IfOk};
 ghost use Rattle.std.specs.List.{All};
 ghost use Rattle.of10_action.specs.Actions.{HasAddress};

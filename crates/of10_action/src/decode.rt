@@ -1,3 +1,5 @@
+//! Actions are read where they lie.
+
 ghost use Rattle.std.specs.Prelude.{◌≡◌, ◌<◌, ◌≤◌, ◌↔◌, ℕ, true, List, length, is_ok, IfOk, Ok, Err};
 ghost use Rattle.std.specs.List.{All};
 ghost use Rattle.of10_action.specs.declared.action.Action.{Action};

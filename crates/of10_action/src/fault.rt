@@ -1,3 +1,5 @@
+//! What is wrong with the bytes of a message.
+
 ghost use Rattle.std.specs.Prelude.{◌≡◌};
 ghost use Rattle.of10_action.specs.declared.fault.DecodeFault.TheVariants.{Memory};
 ghost use Rattle.of10_action.specs.Faults.{class_and_code};

@@ -1,3 +1,5 @@
+//! An entry of a flow table.
+
 use of10_action::Actions;
 use of10_match::Match;
 

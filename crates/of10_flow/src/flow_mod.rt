@@ -1,3 +1,5 @@
+//! Messages that change a flow table (OpenFlow 1.0.0, section 5.3.3).
+
 ghost use Rattle.std.specs.Prelude.{◌≡◌, ◌+◌, ◌≤◌, ◌++◌, true, false, length, drop, is_ok, Err, OnOk, IfOk};
 ghost use Rattle.std.specs.List.{All};
 ghost use Rattle.byteorder.specs.Endian.{big_bytes};

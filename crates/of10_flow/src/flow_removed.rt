@@ -1,3 +1,5 @@
+//! Messages of an entry that a switch removed (OpenFlow 1.0.0, section 5.4.2).
+
 ghost use Rattle.std.specs.Prelude.{◌≡◌, ◌≤◌, ◌++◌, length, Err, OnOk, IfOk};
 ghost use Rattle.byteorder.specs.Endian.{big_bytes};
 ghost use Rattle.of10_model.specs.Spelling.{Spell};

@@ -1,3 +1,5 @@
+//! Messages that send a packet out of a switch (OpenFlow 1.0.0, section 5.3.6).
+
 ghost use Rattle.std.specs.Prelude.{◌≡◌, ◌+◌, ◌≤◌, true, length, take, drop, Err, IfOk};
 ghost use Rattle.of10_model.specs.Normal.{number_at};
 ghost use Rattle.of10_action.specs.declared.fault.DecodeFault.TheVariants.{Memory};

@@ -1,3 +1,5 @@
+//! The twelve fields of a packet that matches speak of.
+
 use std::marker::Model;
 
 /// The twelve fields of a packet on which it is matched (OpenFlow 1.0.0, section 3.1). Hardware

@@ -1,3 +1,5 @@
+//! Matches in their 40 bytes (OpenFlow 1.0.0, section 5.2.3).
+
 ghost use Rattle.std.specs.Prelude.{◌≡◌, ◌↔◌, ◌+◌, ◌≤◌, IsTrue, length};
 ghost use Rattle.of10_model.specs.Pattern.{Has, has, meets, meets_prefix};
 ghost use Rattle.of10_model.specs.Normal.{IsNormal, IsPrefix, Norm, is_exact, match_at};

@@ -1,3 +1,5 @@
+//! Messages that are a header alone.
+
 ghost use Rattle.std.specs.Prelude.{◌≡◌};
 ghost use Rattle.of10_message.specs.Forms.{sized};
 

@@ -1,3 +1,5 @@
+//! What a controller says.
+
 use crate::config::SwitchConfig;
 use crate::queues::QueuesQuestion;
 use of10_ctl::BodyView;

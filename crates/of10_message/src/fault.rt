@@ -1,3 +1,5 @@
+//! Why a message isn't read.
+
 use of10_action::WireFault;
 
 /// What is wrong with a controller's message.

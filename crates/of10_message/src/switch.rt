@@ -1,3 +1,5 @@
+//! What a switch says.
+
 use crate::config::SwitchConfig;
 use crate::queues::QueuesView;
 use crate::switch_error::ErrorView;

@@ -1,3 +1,5 @@
+//! Patterns: a match as constraints of the twelve fields.
+
 ghost use Rattle.std.specs.Prelude.{◌≡◌, ◌≤◌};
 ghost use Rattle.of10_model.specs.Normal.{IsPrefix, is_exact, is_whole};
 ghost use Rattle.of10_model.specs.Pattern.{begins_as, leading_bits};

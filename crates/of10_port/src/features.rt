@@ -1,3 +1,5 @@
+//! The features of a switch (OpenFlow 1.0.0, section 5.3.1).
+
 ghost use Rattle.std.specs.Prelude.{◌≡◌, ◌++◌, ◌*◌, ◌/◌, ◌≤◌, IsTrue, IfOk, OnOk, length};
 ghost use Rattle.of10_action.specs.Reading.{Gives, Reads};
 ghost use Rattle.of10_action.specs.declared.fault.DecodeFault.TheVariants.{Memory};

@@ -1,3 +1,5 @@
+//! Ports as a switch describes them (OpenFlow 1.0.0, section 5.2.1).
+
 ghost use Rattle.std.specs.Prelude.{◌≡◌, ◌++◌, ◌*◌, IfOk, OnOk, length};
 ghost use Rattle.of10_port.specs.Ports.{IsPort, bare_port, port_number, port_config, port_bytes};
 

@@ -1,3 +1,5 @@
+//! Messages of a port that changed (OpenFlow 1.0.0, section 5.4.3).
+
 ghost use Rattle.std.specs.Prelude.{◌≡◌, IfOk};
 ghost use Rattle.of10_action.specs.Reading.{Reads};
 ghost use Rattle.of10_ctl.specs.declared.kind.TheConstants.{PORT_STATUS};

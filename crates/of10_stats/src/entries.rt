@@ -1,3 +1,5 @@
+//! The entries of statistics (OpenFlow 1.0.0, section 5.3.5).
+
 ghost use Rattle.std.specs.Prelude.{◌≡◌, ◌≤◌, ◌<◌, ℕ, length, take, IfSome, IfNone};
 ghost use Rattle.of10_stats.specs.declared.protocol.TheConstants.{FLOW};
 ghost use Rattle.of10_stats.specs.Replies.{IsEntry, IsPortEntry, entry_port, entry_size_of, flow_length, flow_of, length_of};

@@ -1,3 +1,5 @@
+//! Replies with statistics (OpenFlow 1.0.0, section 5.3.5).
+
 ghost use Rattle.std.specs.Prelude.{◌≡◌, ◌%◌, ◌==◌, ◌≤◌, IfOk, length};
 ghost use Rattle.of10_action.specs.Reading.{Reads};
 ghost use Rattle.of10_ctl.specs.declared.kind.TheConstants.{STATS_REPLY};

@@ -1,3 +1,5 @@
+//! The messages that wait for one connection.
+
 ghost use Rattle.std.specs.Prelude.{ℕ, ◌≡◌, ◌≤◌, ◌<◌, ◌+◌, ◌==◌, length, slice_get, OnOk, IfSome, OnErr};
 ghost use Rattle.outbox.specs.Queues.{Queue, no_messages, push, size, without_first, QueueStands};
 

@@ -1,3 +1,5 @@
+//! Patterns with their places, found by look-ups.
+
 ghost use Rattle.std.specs.Prelude.{◌≡◌, List, [], ◌∷◌, OnOk, OnErr};
 ghost use Rattle.of10_model.specs.Exact.{exact_of};
 ghost use Rattle.pattern_index.specs.Places.{PlacedPattern, StandsFor, least_place};

@@ -1,3 +1,5 @@
+//! The flow-mods that take away what no longer belongs to its slice.
+
 ghost use Rattle.std.specs.Prelude.{◌≡◌, length, All, IfOk};
 ghost use Rattle.flow_book.specs.Order.{ArePairsInOrder};
 ghost use Rattle.policy_change.specs.Plans.{LeaveNoneOf, LeaveOthers};

@@ -1,3 +1,5 @@
+//! Which messages of a slice keep its rate.
+
 ghost use Rattle.std.specs.Prelude.{ℕ, ◌≡◌, ◌+◌, ◌-◌, ◌*◌, ◌≤◌, ◌↔◌, min, IsTrue, List, [], ◌∷◌, ◌++◌, length};
 ghost use Rattle.rate_bucket.specs.Rates.{latest, Conforms, is_conforming, accepted, is_accepted, BucketStands};
 

@@ -1,3 +1,5 @@
+//! Why a file isn't read.
+
 ghost use Rattle.std.specs.Prelude.{◌≡◌};
 ghost use Rattle.recording.specs.declared.fault.RecordingFault.TheVariants.{Memory};
 

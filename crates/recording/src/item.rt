@@ -1,3 +1,5 @@
+//! Records, and what their heads may say.
+
 /// The eight bytes that begin a recording.
 pub const MAGIC: [u8; 8] = [0x46, 0x56, 0x52, 0x45, 0x43, 0, 0, 1];
 

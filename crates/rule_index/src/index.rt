@@ -1,3 +1,5 @@
+//! The first rule of a header and the owner of a match, looked up.
+
 ghost use Rattle.std.specs.Prelude.{◌≡◌, ◌+◌, ◌<◌, ◌≤◌, length, slice_get, take, slice_index_or, option_and_then, List, IfOk, OnOk};
 ghost use Rattle.flowspace.specs.Order.{first_of};
 ghost use Rattle.flowspace.specs.Owners.{owner_of_match};

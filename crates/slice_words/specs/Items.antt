@@ -31,7 +31,7 @@ settings_of slice slot rules = record { slot = slot; rate = slice.rate; burst = 
 abbrev pub lone_rule : ℕ → Pattern → Rule
 lone_rule slot m = record { switch = None; priority = 0; pattern = m; writer = Some slot; readers = 0 }
 
--- what is read of a message of the slice's controller. What is quoted of one, and its transaction id, are of the message as it came
+-- what is read of a message of the slice's controller. Of the message as it came are what is quoted of it and its transaction id, and what no number of a port decides: whether it ends the connection (is_dismissing), which length it sets (length_set), and whether it is a question (is_question)
 abbrev pub message_read : Settings → List ℕ → Reading
 message_read s message = read_controller message
 

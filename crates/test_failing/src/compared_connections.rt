@@ -1,5 +1,5 @@
-// Connections that compare what they are sent with what they are to be sent. Their types have no parameter, so that the
-// goals of a whole call of `serve` stay small.
+//! Connections that compare what they are sent with what they are to be sent. Their types have no parameter, so that the
+//! goals of a whole call of `serve` stay small.
 
 ghost use Rattle.std.specs.Prelude.{None};
 

@@ -1,4 +1,4 @@
-// What devices say and are sent, and how they fail.
+//! What devices say and are sent, and how they fail.
 
 ghost use Rattle.std.specs.Prelude.{◌≡◌, IfOk, vec_len};
 

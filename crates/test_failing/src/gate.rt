@@ -1,4 +1,4 @@
-// A gate that holds messages back until something came.
+//! A gate that holds messages back until something came.
 
 use crate::notes::{Mark, Notes};
 use fv_live::Host;

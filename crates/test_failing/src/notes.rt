@@ -1,4 +1,4 @@
-// What has come so far, for those who wait for it.
+//! What has come so far, for those who wait for it.
 
 use fv_live::Flag;
 use live_session::Side;

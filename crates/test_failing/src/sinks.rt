@@ -1,4 +1,4 @@
-// A sink of which others see what it takes, and that fails or stands still.
+//! A sink of which others see what it takes, and that fails or stands still.
 
 ghost use Rattle.std.specs.Prelude.{◌≡◌, ◌≤◌, ◌<◌, None, length, IfOk};
 

@@ -1,4 +1,4 @@
-// A gate that holds messages back until others were answered.
+//! A gate that holds messages back until others were answered.
 
 use fv_live::Host;
 use live_samples::{HELLO, Sent, all_hold, shares};

@@ -1,4 +1,4 @@
-// Works on threads, of which those that have ended are counted.
+//! Works on threads, of which those that have ended are counted.
 
 use fv_live::{Host, Work};
 use std::alloc::Global;

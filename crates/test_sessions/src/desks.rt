@@ -1,4 +1,4 @@
-// Desks, and what comes to them.
+//! Desks, and what comes to them.
 
 ghost use Rattle.std.specs.Prelude.{◌≡◌, ◌<◌, vec_len};
 ghost use Rattle.turn_desk.specs.Seats.{IsSeatOf, SameDesk};

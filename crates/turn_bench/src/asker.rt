@@ -1,4 +1,4 @@
-// Threads that ask one counter, by way of a turn lock or of a mutex.
+//! Threads that ask one counter, by way of a turn lock or of a mutex.
 
 ghost use Rattle.std.specs.Prelude.{◌≡◌};
 ghost use Rattle.std.specs.Arc.{arc_value};

@@ -1,4 +1,4 @@
-// A round: threads begin together, and ask until the time is up.
+//! A round: threads begin together, and ask until the time is up.
 
 use crate::asker::{Asker, mutex_askers, turn_askers};
 use crossbeam_utils::CachePadded;

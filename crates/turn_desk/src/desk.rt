@@ -1,4 +1,4 @@
-// A desk is made, asked and closed.
+//! A desk is made, asked and closed.
 
 ghost use Rattle.std.specs.Prelude.{[], length, IfOk, IfErr, IfSome, IfNone, ◌≡◌, ◌≤◌, ◌<◌, ◌+◌, ◌^◌};
 ghost use Rattle.std.specs.declared.option.Option.TheVariants.{Some};

@@ -1,4 +1,5 @@
-// The rule of the lock, and what its steps tell.
+//! The rule of the lock, and what its steps tell.
+
 use crate::object::Object;
 use crate::view::Member;
 use atomic_table::{Join, Play, Split, TableRule};

@@ -1,4 +1,4 @@
-// Seats are split, joined and met.
+//! Seats are split, joined and met.
 
 ghost use Rattle.std.specs.Prelude.{true, ◌≡◌, ◌≢◌, ◌≤◌, ◌+◌, ◌^◌, length};
 ghost use Rattle.turn_desk.specs.Histories.{GoesOn, NoneBy, StartsWith, longer};

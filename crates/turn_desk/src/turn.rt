@@ -1,4 +1,4 @@
-// One turn: a ticket, looks until it is served, the object's step where it lies, and the pass to the next.
+//! One turn: a ticket, looks until it is served, the object's step where it lies, and the pass to the next.
 
 ghost use Rattle.std.specs.Prelude.{true, [], ◌∷◌, MatchBool, length, ◌≡◌, ◌<◌, ◌+◌, ◌^◌};
 ghost use Rattle.std.specs.declared.option.Option.TheVariants.{Some};

@@ -1,4 +1,5 @@
-// What a seat knows. No value of these types is ever made.
+//! What a seat knows. No value of these types is ever made.
+
 use std::collections::LinkedList;
 
 // One turn: the number of the seat whose it was, what was asked and what was answered.
