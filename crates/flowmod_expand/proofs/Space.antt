@@ -1,6 +1,5 @@
 -- The headers of the pieces of a match.
-use Rattle.std.proofs.Common.{◌≡◌, ◌≢◌, ◌↔◌, ℕ, ◌≤◌, inl, inr, true, false, List, [], ◌∷◌, length, get_or, filter, filter_map, count_by, All, Any, AllPairs, Option, Some, None, refl, sym, ◌∙◌, subst, arith}
-use Rattle.std.proofs.lemmas.Bool.{cases_Bool, cond-true, cond-false}
+use Rattle.std.proofs.Common.{◌≡◌, ◌≢◌, ◌↔◌, ℕ, ◌≤◌, true, List, length, get_or, filter, filter_map, count_by, All, Any, AllPairs, Option, Some, None, refl, sym, subst, arith}
 use Rattle.std.proofs.lemmas.List.{length-map, get_or_default}
 use Rattle.std.proofs.lemmas.List.Elements.{All-weaker, All-map, All-filter}
 use Rattle.std.proofs.lemmas.List.Sums.{length-filter}
@@ -21,7 +20,7 @@ use Rattle.flowspace.specs.Owners.{Writes, HasWriteRule, Owns}
 use Rattle.flowspace.proofs.Owning.{Writes-iff}
 use Rattle.flowspace.proofs.Refusing.{is_value-Some, Some-is_value}
 use Rattle.flowmod_expand.specs.Pieces.{writes_of, pieces_of}
-use Rattle.flowmod_expand.proofs.Somewhere.{Any-first, Any-later, Any-cases, Any-nil, Any-weaker, Any-kept, kept-Any, Any-map, map-Any, GivesOne, Any-filter_map, filter_map-Any, All-filter_map, filter_map_length}
+use Rattle.flowmod_expand.proofs.Somewhere.{Any-weaker, Any-kept, kept-Any, Any-map, map-Any, GivesOne, Any-filter_map, filter_map-Any, All-filter_map, filter_map_length}
 use Rattle.flowmod_expand.proofs.Repeats.{distinct, All-without_repeats, Any-without_repeats, without_repeats-Any, without_repeats_length}
 
 -- ---- the rules that a slice writes

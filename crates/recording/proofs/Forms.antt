@@ -1,5 +1,5 @@
 -- What the form of a head says of it.
-use Rattle.std.proofs.Common.{◌≡◌, ℕ, ◌+◌, ◌<◌, ◌≤◌, ◌==◌, ◌&&◌, ◌||◌, Bool, true, false, cond, ltb, leb, if◌then◌else◌, List, length, subst}
+use Rattle.std.proofs.Common.{◌≡◌, ℕ, ◌+◌, ◌<◌, ◌≤◌, ◌==◌, ◌&&◌, Bool, true, false, cond, ltb, leb, if◌then◌else◌, List, length, subst}
 use Rattle.std.proofs.lemmas.Bool.{and_parts, leb-true, ltb-true, eqb-true, lt-ltb, le-ltb}
 use Rattle.recording.specs.declared.item.Item.{Item}
 use Rattle.recording.specs.declared.layout.Layout.{Layout}
