@@ -5,6 +5,7 @@ use Rattle.std.proofs.lemmas.List.{length-append, drop_at, take-append-drop}
 use Rattle.std.proofs.lemmas.Option.{same_Some}
 use Rattle.std.proofs.lemmas.Bool.{eqb-true}
 use Rattle.std.proofs.lemmas.Slice.Eq.{bytes_eq-Decides}
+use Rattle.frame_header.specs.declared.probe.TheConstants.{LLDP}
 use Rattle.frame_header.specs.Headers.{dl_type_of, header_of_packet}
 use Rattle.frame_header.specs.Probes.{IsProbe, trailer, last_eight, trailer_slot, probe_slot_of}
 
