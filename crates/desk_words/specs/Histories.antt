@@ -35,7 +35,7 @@ use Rattle.desk_words.specs.declared.event.Event.TheVariants.{SwitchUp, SwitchMs
 use Rattle.desk_words.specs.declared.event.Timed.{Timed}
 use Rattle.desk_words.specs.declared.phase.Phase.{Phase}
 use Rattle.desk_words.specs.declared.phase.Phase.TheVariants.{Fresh, Begun, Opened, Gone}
-use Rattle.desk_words.specs.Openings.{opening_with, rules_of, KnownSwitch, switch_of, phase_of}
+use Rattle.desk_words.specs.Openings.{opening_with, rules_of, swaps_of, KnownSwitch, switch_of, phase_of}
 
 -- ---- slices of a policy
 
@@ -47,8 +47,8 @@ is_slot policy slot = ltb slot (length policy.slices)
 abbrev pub settings_at : PolicyView → ℕ → Option Features → Settings
 settings_at policy slot told =
     elim (slice_get policy.slices slot) [
-      | None ↦ record { slot = slot; rate = 0; burst = 0; quota = 0; patterns = [] }
-      | Some slice ↦ settings_of slice slot (rules_of policy told)
+      | None ↦ record { slot = slot; rate = 0; burst = 0; quota = 0; patterns = []; swaps = [] }
+      | Some slice ↦ settings_of slice slot (rules_of policy told) (swaps_of policy told)
     ]
 
 -- ---- what a slice sees

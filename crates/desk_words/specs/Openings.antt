@@ -6,8 +6,10 @@ use Rattle.of10_message.specs.declared.fault.Unread.{Unread}
 use Rattle.of10_message.specs.Switch as says
 use Rattle.of10_message.specs.Switch.{SwitchMessage, read_switch, has_bad_length}
 use Rattle.flowspace.specs.declared.rules.Rule.{Rule}
+use Rattle.flowspace.specs.declared.swaps.Swap.{Swap}
 use Rattle.flowspace.specs.Order.{rules_on}
 use Rattle.flowspace.specs.Policies.{PolicyView}
+use Rattle.flowspace.specs.Swaps.{swaps_on}
 use Rattle.port_view.specs.KnownPorts.{first_known, is_kept, changed}
 use Rattle.desk_words.specs.declared.event.Event.{Event}
 use Rattle.desk_words.specs.declared.event.Event.TheVariants.{SwitchUp, SwitchMsg, SwitchDown}
@@ -92,6 +94,11 @@ opening_of (timed ∷ h) = opening_after (phase_of h) (opening_of h) timed.event
 abbrev pub rules_of : PolicyView → Option Features → List Rule
 rules_of policy None = []
 rules_of policy (Some features) = rules_on features.datapath policy.rules
+
+-- the swaps that hold on it, as they stand in the file; none before that
+abbrev pub swaps_of : PolicyView → Option Features → List Swap
+swaps_of policy None = []
+swaps_of policy (Some features) = swaps_on features.datapath policy.swaps
 
 -- ---- known ports
 

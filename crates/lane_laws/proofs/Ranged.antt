@@ -1,5 +1,5 @@
 -- Each field of what is sent for a slice lies in its range; and what holds of all that is sent holds of each message.
-use Rattle.std.proofs.Common.{◌≡◌, ◌⊎◌, refl, sym, ◌∙◌, ap, subst, ℕ, ◌==◌, ◌<◌, ◌^◌, inl, inr, Bool, true, false, true≢false, if◌then◌else◌, ◌≢◌, List, [], ◌∷◌, get_or, All, Option, Some, None, IfSome, arith}
+use Rattle.std.proofs.Common.{◌≡◌, ◌⊎◌, refl, sym, ◌∙◌, ap, subst, ℕ, ◌==◌, ◌<◌, ◌^◌, inl, inr, Bool, true, false, true≢false, if◌then◌else◌, ◌≢◌, List, [], ◌∷◌, get_or, slice_index, All, Option, Some, None, IfSome, arith}
 use Rattle.std.proofs.lemmas.Bool.{eq-eqb}
 use Rattle.std.proofs.lemmas.Option.{none-some, same_Some}
 use Rattle.std.proofs.lemmas.List.Elements.{All-nil, All-cons, All-head, All-tail, All-filter, All-weaker}
@@ -34,6 +34,8 @@ use Rattle.action_check.specs.declared.origin.Origin.{Origin}
 use Rattle.action_check.proofs.Sizes.{IsAction-expanded}
 use Rattle.action_check.proofs.Ways.{permitted-Ok}
 use Rattle.recording.proofs.Untold.{bytes_of}
+use Rattle.port_turns.proofs.StayBytes.{turn_in_bytes}
+use Rattle.slice_words.specs.Items.{message_turned}
 use Rattle.slice_words.specs.Buffers.{HeldPacket}
 use Rattle.slice_words.specs.FlowMods.{Ground, named_packet}
 use Rattle.flow_facts.specs.PacketOuts.{carried_header}
@@ -45,7 +47,7 @@ use Rattle.desk_words.specs.declared.phase.Phase.{Phase}
 use Rattle.desk_words.specs.declared.phase.Phase.TheVariants.{Fresh, Begun, Opened, Gone}
 use Rattle.desk_words.specs.declared.event.Timed.{Timed}
 use Rattle.desk_words.specs.Openings.{phase_of, opening_of}
-use Rattle.desk_words.specs.Histories.{is_slot, header_in, packet_said, number_given, side_of, packet_handed}
+use Rattle.desk_words.specs.Histories.{is_slot, settings_at, header_in, packet_said, number_given, side_of, packet_handed}
 use Rattle.desk_words.specs.Sent.{lane_by}
 use Rattle.of10_flow.specs.FlowMods.{IsRanged}
 use Rattle.of10_flow.specs.PacketOuts.{IsRangedOut}
@@ -215,6 +217,8 @@ each_ranged P Q R policy normal h timed slot message all_bytes is each =
     let rules = rules_in policy h in
     let earlier = All-tail (λ t. IsOfBytes t.event) timed h all_bytes in
     let bytes : All (λ byte. byte < 256) message = subst IsOfBytes is (All-head (λ t. IsOfBytes t.event) timed h all_bytes) in
+    let turned = λ (features : Features). message_turned (settings_at policy slot (Some features)) message in
+    let of_turned : (features : Features) → (k : ℕ) → slice_index (turned features) k < 256 = λ features. bytes_of (turned features) (turn_in_bytes (settings_at policy slot (Some features)).swaps message bytes) in
     All-weaker (λ sent. IsSpelled (OfFlowMod rules) (OfPacketOut rules) sent ⊎ R rules sent) (λ sent. IsEitherThat (P rules) (Q rules) sent ⊎ R rules sent)
     (λ sent whole. elim whole [
       | inl (inl (m, spelled, (ranged, own))) ↦ inl (inl (m, spelled, ranged, own))
@@ -224,11 +228,11 @@ each_ranged P Q R policy normal h timed slot message all_bytes is each =
     (lane_by policy h timed)
     (each_in_lane OfFlowMod OfPacketOut R policy h timed slot message is (record {
       flow_mods = λ features opened here m read none k d within. (
-        ranged_on policy slot h earlier features opened here normal m (read_of message m (bytes_of message bytes) read) k d within,
+        ranged_on policy slot h earlier features opened here normal m (read_of (turned features) m (of_turned features) read) k d within,
         each.flow_mods features opened here m read none k d within,
       );
       packet_outs = λ features opened here m read none. (
-        out_ranged_on policy slot h earlier features opened here m (read_out_of message m (bytes_of message bytes) read) none,
+        out_ranged_on policy slot h earlier features opened here m (read_out_of (turned features) m (of_turned features) read) none,
         each.packet_outs features opened here m read none,
       );
       questions = each.questions;

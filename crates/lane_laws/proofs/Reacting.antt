@@ -35,6 +35,9 @@ use Rattle.action_check.specs.declared.origin.Origin.TheVariants as origins
 use Rattle.action_check.specs.Permitted.{permitted}
 use Rattle.action_check.specs.Soundness.{HasWay}
 use Rattle.recording.proofs.Untold.{bytes_of}
+use Rattle.flowspace.specs.Swaps.{pairs_of}
+use Rattle.port_turns.specs.Readings.{turn_in, read_turned}
+use Rattle.port_turns.proofs.StayBytes.{turn_in_bytes}
 use Rattle.slice_words.specs.Items.{lone_rules}
 use Rattle.slice_words.specs.Buffers.{HeldPacket, held_packets}
 use Rattle.slice_words.specs.FlowMods.{Ground, pieces_on, packet_at, permitted_on, piece_place}
@@ -264,31 +267,31 @@ module _ (rules : List Rule) (slot : ℕ) (known : List (List ℕ)) (state : Sli
       })
 
 pub reaction_lies : (policy : SwitchView) (known : List (List ℕ)) (state : SliceState) (slot : ℕ) (message : List ℕ) (sent : List (List ℕ)) → IsSwitchPolicy policy.slices policy.rules → KeepsWritten policy.rules slot state
-    → AreNormal policy.rules → KeepsRanged state → All (λ byte. byte < 256) message → AreSentOn policy.rules slot known state (read_controller message) sent
+    → AreNormal policy.rules → KeepsRanged state → All (λ byte. byte < 256) message → AreSentOn policy.rules slot known state (read_turned (pairs_of policy.swaps slot) message) sent
     → All (IsSentThat (LiesInFlowspace policy.rules slot) (SendsOwnPacket (IsKeptHeader state) policy.rules slot)) sent
 reaction_lies policy known state slot message sent accepted written normal ranged bytes is =
-    all_sent policy.rules slot known state is.0 is.1 (LiesInFlowspace policy.rules slot) (SendsOwnPacket (IsKeptHeader state) policy.rules slot) message
-    (all_ranged policy.rules slot known state is.0 is.1 normal ranged message bytes) (record {
+    all_sent policy.rules slot known state is.0 is.1 (LiesInFlowspace policy.rules slot) (SendsOwnPacket (IsKeptHeader state) policy.rules slot) (turn_in (pairs_of policy.swaps slot) message)
+    (all_ranged policy.rules slot known state is.0 is.1 normal ranged (turn_in (pairs_of policy.swaps slot) message) (turn_in_bytes (pairs_of policy.swaps slot) message bytes)) (record {
       flow_mods = λ m read. lies_from policy.rules slot known state is.0 is.1 policy.slices accepted m;
       packet_outs = λ m read none. out_lies_from policy.rules slot known state is.0 is.1 policy.slices accepted written m none;
     }) sent is.2
 
 pub reaction_outputs : (policy : SwitchView) (known : List (List ℕ)) (state : SliceState) (slot : ℕ) (message : List ℕ) (sent : List (List ℕ))
-    → AreNormal policy.rules → KeepsRanged state → All (λ byte. byte < 256) message → AreSentOn policy.rules slot known state (read_controller message) sent
+    → AreNormal policy.rules → KeepsRanged state → All (λ byte. byte < 256) message → AreSentOn policy.rules slot known state (read_turned (pairs_of policy.swaps slot) message) sent
     → All (IsSentThat (OutputsToOwnPorts policy.rules slot) (SendsToOwnPorts policy.rules slot)) sent
 reaction_outputs policy known state slot message sent normal ranged bytes is =
-    all_sent policy.rules slot known state is.0 is.1 (OutputsToOwnPorts policy.rules slot) (SendsToOwnPorts policy.rules slot) message
-    (all_ranged policy.rules slot known state is.0 is.1 normal ranged message bytes) (record {
+    all_sent policy.rules slot known state is.0 is.1 (OutputsToOwnPorts policy.rules slot) (SendsToOwnPorts policy.rules slot) (turn_in (pairs_of policy.swaps slot) message)
+    (all_ranged policy.rules slot known state is.0 is.1 normal ranged (turn_in (pairs_of policy.swaps slot) message) (turn_in_bytes (pairs_of policy.swaps slot) message bytes)) (record {
       flow_mods = λ m read. outputs_from policy.rules slot known state is.0 is.1 m;
       packet_outs = λ m read none. out_outputs_from policy.rules slot known state is.0 is.1 m none;
     }) sent is.2
 
 pub reaction_leaves : (policy : SwitchView) (known : List (List ℕ)) (state : SliceState) (slot : ℕ) (message : List ℕ) (sent : List (List ℕ))
-    → IsSwitchPolicy policy.slices policy.rules → AreNormal policy.rules → KeepsRanged state → All (λ byte. byte < 256) message → AreSentOn policy.rules slot known state (read_controller message) sent
+    → IsSwitchPolicy policy.slices policy.rules → AreNormal policy.rules → KeepsRanged state → All (λ byte. byte < 256) message → AreSentOn policy.rules slot known state (read_turned (pairs_of policy.swaps slot) message) sent
     → All (IsSentThat (LeavesOtherHeaders policy.rules slot) ChangesNoTable) sent
 reaction_leaves policy known state slot message sent accepted normal ranged bytes is =
-    all_sent policy.rules slot known state is.0 is.1 (LeavesOtherHeaders policy.rules slot) ChangesNoTable message
-    (all_ranged policy.rules slot known state is.0 is.1 normal ranged message bytes) (record {
+    all_sent policy.rules slot known state is.0 is.1 (LeavesOtherHeaders policy.rules slot) ChangesNoTable (turn_in (pairs_of policy.swaps slot) message)
+    (all_ranged policy.rules slot known state is.0 is.1 normal ranged (turn_in (pairs_of policy.swaps slot) message) (turn_in_bytes (pairs_of policy.swaps slot) message bytes)) (record {
       flow_mods = λ m read.
           All-weaker (LiesInFlowspace policy.rules slot) (LeavesOtherHeaders policy.rules slot) (λ one lies. leaves policy.rules slot one lies)
           (flow_mods_from state (ground_at policy.rules slot known is.0 is.1 state) m) (lies_from policy.rules slot known state is.0 is.1 policy.slices accepted m);

@@ -46,7 +46,8 @@ use Rattle.action_check.specs.declared.origin.Origin.{Origin}
 use Rattle.action_check.specs.declared.origin.Origin.TheVariants.{Piece}
 use Rattle.action_check.specs.Permitted.{permitted}
 use Rattle.action_check.specs.Soundness.{HasWay}
-use Rattle.slice_words.specs.Items.{Settings, message_read, Sight, lone_rules, Item, Msg, is_up, known_ports}
+use Rattle.port_turns.proofs.StayBytes.{turn_in_bytes}
+use Rattle.slice_words.specs.Items.{Settings, message_read, message_turned, Sight, lone_rules, Item, Msg, is_up, known_ports}
 use Rattle.slice_words.specs.Pasts.{SendsOut, Answer, no_answer}
 use Rattle.slice_words.specs.Buffers.{HeldPacket, held_packets}
 use Rattle.slice_words.specs.FlowMods.{Ground, ground_of, pieces_on, permitted_on, packet_at, named_packet, piece_place, carrier_of, flow_mod_fault}
@@ -239,7 +240,7 @@ each_in_lane P Q R policy h timed slot message is holds =
           let told = told_up policy slot h up in
           let ms = flow_mods_at policy slot h m in
           let no_fault = subst (λ (found : Option Features). flow_mod_fault (ground_by policy slot h found) m ≡ None) told.1 some.1.no_fault in
-          let all = holds.flow_mods told.0 told.1 (up_here policy slot h (phase_of h) refl up) m some.1.read no_fault in
+          let all = holds.flow_mods told.0 told.1 (up_here policy slot h (phase_of h) refl up) m (subst (λ (found : Option Features). message_read (settings_at policy slot found) message ≡ Ok (said.FlowMod m)) told.1 some.1.read) no_fault in
           let each : All (P (rules_in policy h)) ms =
           subst (λ (found : Option Features). All (P (rules_of policy found)) (flow_mods_by policy slot h (ground_by policy slot h found) m)) (sym told.1) all in
           rw (lane_whole policy h timed slot message m is up some.1)
@@ -249,7 +250,7 @@ each_in_lane P Q R policy h timed slot message is holds =
           let m = some.0 in
           let told = told_up policy slot h up in
           let no_fault = subst (λ (found : Option Features). packet_out_fault (ground_by policy slot h found) m ≡ None) told.1 some.1.no_fault in
-          let one = holds.packet_outs told.0 told.1 (up_here policy slot h (phase_of h) refl up) m some.1.read no_fault in
+          let one = holds.packet_outs told.0 told.1 (up_here policy slot h (phase_of h) refl up) m (subst (λ (found : Option Features). message_read (settings_at policy slot found) message ≡ Ok (said.PacketOut m)) told.1 some.1.read) no_fault in
           let sent : Q (rules_in policy h) (packet_out_at policy slot h m) =
           subst (λ (found : Option Features). Q (rules_of policy found) (packet_out_by policy slot h (ground_by policy slot h found) m)) (sym told.1) one in
           rw (out_lane_whole policy h timed slot message m is up some.1)
@@ -257,7 +258,7 @@ each_in_lane P Q R policy h timed slot message is holds =
       | inr (up, inr (inr some)) ↦
           let told = told_up policy slot h up in
           let may = subst (λ (found : Option Features). IsInquirySent (ground_by policy slot h found) some.0 some.1) told.1 some.4 in
-          let one = holds.questions told.0 told.1 (up_here policy slot h (phase_of h) refl up) some.0 some.1 some.2 may in
+          let one = holds.questions told.0 told.1 (up_here policy slot h (phase_of h) refl up) some.0 some.1 (subst (λ (found : Option Features). message_read (settings_at policy slot found) message ≡ Ok some.0) told.1 some.2) may in
           let sent : R (rules_in policy h) some.1 = subst (λ (found : Option Features). R (rules_of policy found) some.1) (sym told.1) one in
           rw (question_lane_whole policy h timed slot message some.1 some.0 is up some.2 some.3 some.4) (All-cons Each some.1 [] (inr sent) (All-nil Each))
     ]
@@ -296,6 +297,9 @@ module _ (policy : PolicyView) (h : List Timed) (timed : Timed) (slot : ℕ) (me
     abbrev next_xid : ℕ
     next_xid = (ground_in policy slot h).xid
 
+    abbrev turned : List ℕ
+    turned = message_turned (settings_in policy slot h) message
+
     pub statistics_sent : (request asked : StatsRequest) → IsPermittedInquiry policy slot h timed.moment message (said.StatsRequest request) → asked_as request ≡ Some asked → lane_by policy h timed ≡ spell_request asked next_xid ∷ []
     statistics_sent request asked p sent =
         question_lane_whole policy h timed slot message (spell_request asked next_xid) (said.StatsRequest request) is up p.read p.rate
@@ -314,8 +318,8 @@ module _ (policy : PolicyView) (h : List Timed) (timed : Timed) (slot : ℕ) (me
         (owns (ground_in policy slot h) (rules_in policy h) slot (slot_is policy slot (opening_of h) _ refl) (patterns_are policy slot (opening_of h) (up_here policy slot h (phase_of h) refl up)) queues.port p.may, refl)
 
     pub queues_passed : (queues : QueuesQuestion) → All (λ byte. byte < 256) message → IsPermittedInquiry policy slot h timed.moment message (said.QueueGetConfigRequest queues)
-        → lane_by policy h timed ≡ message_of QUEUE_GET_CONFIG_REQUEST next_xid (drop 8 message) ∷ []
-    queues_passed queues bytes p = queues_sent queues p ∙ ap (λ (sent : List ℕ). sent ∷ []) (question_passed next_xid message queues bytes (queues_as_read message queues p.read))
+        → lane_by policy h timed ≡ message_of QUEUE_GET_CONFIG_REQUEST next_xid (drop 8 turned) ∷ []
+    queues_passed queues bytes p = queues_sent queues p ∙ ap (λ (sent : List ℕ). sent ∷ []) (question_passed next_xid turned queues (turn_in_bytes (settings_in policy slot h).swaps message bytes) (queues_as_read turned queues p.read))
 
 -- ---- one flow-mod for each piece
 
@@ -474,7 +478,7 @@ out_lies_on policy accepted slot h features is here m none =
 pub all_lie : (policy : PolicyView) → IsPolicy policy.slices policy.rules → (h : List Timed) (slot : ℕ) (message : List ℕ)
     → HoldsOfSent (λ rules. LiesInFlowspace rules slot) (λ rules. SendsOwnPacket (IsBufferHeader h) rules slot) (λ rules. AsksForReply) policy slot h message
 all_lie policy accepted h slot message = record {
-  questions = λ features opened here asked question read may. asks_for_reply (ground_by policy slot h (Some features)) message question asked read may;
+  questions = λ features opened here asked question read may. asks_for_reply (ground_by policy slot h (Some features)) (message_turned (settings_at policy slot (Some features)) message) question asked read may;
   flow_mods = λ features opened here m read none. lies_on policy accepted slot h features here m;
   packet_outs = λ features opened here m read none. out_lies_on policy accepted slot h features opened here m none;
 }
@@ -505,7 +509,7 @@ out_outputs_on policy slot h features is here m none =
 
 pub all_output : (policy : PolicyView) (h : List Timed) (slot : ℕ) (message : List ℕ) → HoldsOfSent (λ rules. OutputsToOwnPorts rules slot) (λ rules. SendsToOwnPorts rules slot) (λ rules. AsksForReply) policy slot h message
 all_output policy h slot message = record {
-  questions = λ features opened here asked question read may. asks_for_reply (ground_by policy slot h (Some features)) message question asked read may;
+  questions = λ features opened here asked question read may. asks_for_reply (ground_by policy slot h (Some features)) (message_turned (settings_at policy slot (Some features)) message) question asked read may;
   flow_mods = λ features opened here m read none. outputs_on policy slot h features opened here m;
   packet_outs = λ features opened here m read none. out_outputs_on policy slot h features opened here m none;
 }
@@ -518,7 +522,7 @@ leaves rules slot m lies h range outside table = Treatment-Apply table m h (λ h
 pub all_leave : (policy : PolicyView) → IsPolicy policy.slices policy.rules → (h : List Timed) (slot : ℕ) (message : List ℕ)
     → HoldsOfSent (λ rules. LeavesOtherHeaders rules slot) (λ rules. ChangesNoTable) (λ rules. AsksForReply) policy slot h message
 all_leave policy accepted h slot message = record {
-  questions = λ features opened here asked question read may. asks_for_reply (ground_by policy slot h (Some features)) message question asked read may;
+  questions = λ features opened here asked question read may. asks_for_reply (ground_by policy slot h (Some features)) (message_turned (settings_at policy slot (Some features)) message) question asked read may;
   flow_mods = λ features opened here m read none.
       let rules = rules_on features.datapath policy.rules in
       let ms = flow_mods_by policy slot h (ground_by policy slot h (Some features)) m in
@@ -615,7 +619,7 @@ held_are_written policy h slot = elim (cases_Bool (is_slot policy slot)) [
 
 pub all_own : (policy : PolicyView) (h : List Timed) (slot : ℕ) (message : List ℕ) → HoldsOfSent (λ rules. CarriesOwnBuffer policy slot h) (λ rules. SendsOwnBuffer policy slot h) (λ rules. AsksForReply) policy slot h message
 all_own policy h slot message = record {
-  questions = λ features opened here asked question read may. asks_for_reply (ground_by policy slot h (Some features)) message question asked read may;
+  questions = λ features opened here asked question read may. asks_for_reply (ground_by policy slot h (Some features)) (message_turned (settings_at policy slot (Some features)) message) question asked read may;
   flow_mods = λ features opened here m read none. buffers_on policy slot h features opened here m;
   packet_outs = λ features opened here m read none. out_buffers_on policy slot h features opened here m none;
 }

@@ -1,5 +1,5 @@
 -- What is sent for a slice is read as it was sent, and stays within the slice.
-use Rattle.std.proofs.Common.{◌≡◌, ◌⊎◌, refl, sym, ◌∙◌, ap, subst, ℕ, ◌<◌, ◌≤◌, ◌^◌, inl, inr, true, false, true≢false, List, [], ◌∷◌, ◌++◌, length, map, get_or, All, Option, Some, None, option_map, arith}
+use Rattle.std.proofs.Common.{◌≡◌, ◌⊎◌, refl, sym, ◌∙◌, ap, subst, ℕ, ◌<◌, ◌≤◌, ◌^◌, inl, inr, true, false, true≢false, List, [], ◌∷◌, ◌++◌, length, map, get_or, slice_index, All, Option, Some, None, option_map, arith}
 use Rattle.std.proofs.lemmas.Bool.{ltb-true, ltb-false, eq-eqb}
 use Rattle.std.proofs.lemmas.Option.{none-some, same_Some}
 use Rattle.std.proofs.lemmas.List.{get_or-map, length-map}
@@ -40,6 +40,8 @@ use Rattle.desk_words.specs.declared.event.Event.TheVariants.{SliceMsg}
 use Rattle.desk_words.specs.declared.event.Timed.{Timed}
 use Rattle.desk_words.specs.Openings.{opening_of}
 use Rattle.desk_words.specs.Histories.{is_slot, settings_at, header_in, side_of}
+use Rattle.port_turns.proofs.StayBytes.{turn_in_bytes}
+use Rattle.slice_words.specs.Items.{message_turned}
 use Rattle.desk_words.specs.Sent.{lane_by}
 use Rattle.flow_facts.specs.FlowMods.{LiesInFlowspace, NamesOwnPort, StaysWithin}
 use Rattle.flow_facts.specs.PacketOuts.{SendsWithin, IsHeaderSent}
@@ -213,6 +215,8 @@ each_read policy accepted normal h timed slot message all_bytes is =
     let rules = rules_in policy h in
     let earlier = All-tail (λ t. IsOfBytes t.event) timed h all_bytes in
     let bytes : All (λ byte. byte < 256) message = subst IsOfBytes is (All-head (λ t. IsOfBytes t.event) timed h all_bytes) in
+    let turned = λ (features : Features). message_turned (settings_at policy slot (Some features)) message in
+    let of_turned : (features : Features) → (k : ℕ) → slice_index (turned features) k < 256 = λ features. bytes_of (turned features) (turn_in_bytes (settings_at policy slot (Some features)).swaps message bytes) in
     All-weaker (λ sent. IsEitherThat (IsWhole rules slot) (IsWholeOut h rules slot) sent ⊎ IsReadAsInquiry rules slot sent) (IsReadThat (StaysWithin rules slot) (SendsWithin (IsBufferHeader h) rules slot) rules slot)
     (λ sent whole. elim whole [
       | inl (inl (m, spelled, ranged, (below, small, within))) ↦
@@ -228,10 +232,10 @@ each_read policy accepted normal h timed slot message all_bytes is =
       flow_mods = λ features opened here m read none.
           let g = ground_by policy slot h (Some features) in
           let ms = flow_mods_by policy slot h g m in
-          whole_on policy accepted normal slot h earlier features opened here m (read_of message m (bytes_of message bytes) read)
+          whole_on policy accepted normal slot h earlier features opened here m (read_of (turned features) m (of_turned features) read)
           (each_fits ms (sizes_within (map spell_flow_mod ms) (not_large_numbered (side_of policy slot h).sight.came g m none)));
       questions = λ features opened here asked question read may.
-          read_as_question (ground_by policy slot h (Some features)) (rules_on features.datapath policy.rules) slot (slot_is policy slot (Some features) _ refl) (patterns_are policy slot (Some features) here) message question asked
-          (bytes_of message bytes) read may;
-      packet_outs = λ features opened here m read none. out_whole_on policy accepted normal slot h earlier features opened here m (read_out_of message m (bytes_of message bytes) read) none;
+          read_as_question (ground_by policy slot h (Some features)) (rules_on features.datapath policy.rules) slot (slot_is policy slot (Some features) _ refl) (patterns_are policy slot (Some features) here) (turned features) question asked
+          (of_turned features) read may;
+      packet_outs = λ features opened here m read none. out_whole_on policy accepted normal slot h earlier features opened here m (read_out_of (turned features) m (of_turned features) read) none;
     }))

@@ -16,7 +16,9 @@ ghost use Rattle.of10_message.specs.declared.controller.FromController.TheVarian
 ghost use Rattle.stats_filter.specs.Asking.{asked_as};
 ghost use Rattle.flowspace.specs.Policies.{PolicyView, SwitchView, IsPolicy, IsSwitchPolicy, AreNormal};
 ghost use Rattle.of10_message.specs.Heads.{xid_of};
-ghost use Rattle.of10_message.specs.Controller.{read_controller};
+ghost use Rattle.flowspace.specs.Swaps.{pairs_of};
+ghost use Rattle.port_turns.specs.Readings.{read_turned};
+ghost use Rattle.slice_words.specs.Items.{message_turned};
 ghost use Rattle.flow_book.specs.declared.state.SliceState.{SliceState};
 ghost use Rattle.slice_words.specs.Standing.{SliceStands};
 ghost use Rattle.slice_side.specs.Checking.{AreSentOn};
@@ -108,7 +110,7 @@ pub fn permitted_packet_outs_are_sent()
 
 /// An inquiry of a slice that is up is sent where it keeps the rate and the slice may ask it: exactly one, under
 /// the transaction id that the slice gets next. Of flows the sum is asked for as the single flows. A question for
-/// queues that came in bytes is sent with its body as it came.
+/// queues that came in bytes is sent with its body as it came but for its port, which is the physical one.
 pub fn permitted_inquiries_are_sent()
     ensures statistics { (policy : PolicyView) (h : List Timed) (timed : Timed) (slot : ℕ) (message : List ℕ) (request asked : StatsRequest) → timed.event ≡ SliceMsg slot message → is_slice_up policy slot h ≡ true
         → IsPermittedInquiry policy slot h timed.moment message (said.StatsRequest request) → asked_as request ≡ Some asked → lane_by policy h timed ≡ spell_request asked (ground_in policy slot h).xid ∷ [] }
@@ -117,7 +119,7 @@ pub fn permitted_inquiries_are_sent()
     ensures queues { (policy : PolicyView) (h : List Timed) (timed : Timed) (slot : ℕ) (message : List ℕ) (queues : QueuesQuestion) → timed.event ≡ SliceMsg slot message → is_slice_up policy slot h ≡ true
         → IsPermittedInquiry policy slot h timed.moment message (said.QueueGetConfigRequest queues) → lane_by policy h timed ≡ spell_queues_request (ground_in policy slot h).xid queues ∷ [] }
     ensures bodies { (policy : PolicyView) (h : List Timed) (timed : Timed) (slot : ℕ) (message : List ℕ) (queues : QueuesQuestion) → All (λ byte. byte < 256) message → timed.event ≡ SliceMsg slot message → is_slice_up policy slot h ≡ true
-        → IsPermittedInquiry policy slot h timed.moment message (said.QueueGetConfigRequest queues) → lane_by policy h timed ≡ message_of QUEUE_GET_CONFIG_REQUEST (ground_in policy slot h).xid (drop 8 message) ∷ [] }
+        → IsPermittedInquiry policy slot h timed.moment message (said.QueueGetConfigRequest queues) → lane_by policy h timed ≡ message_of QUEUE_GET_CONFIG_REQUEST (ground_in policy slot h).xid (drop 8 (message_turned (settings_in policy slot h) message)) ∷ [] }
 {}
 
 /// The first three hold of what `slice_side::react` has sent on by its clause `sent`, for the policy, the ports
@@ -128,13 +130,13 @@ pub fn permitted_inquiries_are_sent()
 /// 32 and 16 bits, as each `Match`, `u8`, `u32` and `u16`.
 pub fn reactions_stay_within_the_slice()
     ensures flowspace { (policy : SwitchView) (known : List (List ℕ)) (state : SliceState) (slot : ℕ) (message : List ℕ) (sent : List (List ℕ))
-        → IsSwitchPolicy policy.slices policy.rules → KeepsWritten policy.rules slot state → AreNormal policy.rules → KeepsRanged state → All (λ byte. byte < 256) message → AreSentOn policy.rules slot known state (read_controller message) sent
+        → IsSwitchPolicy policy.slices policy.rules → KeepsWritten policy.rules slot state → AreNormal policy.rules → KeepsRanged state → All (λ byte. byte < 256) message → AreSentOn policy.rules slot known state (read_turned (pairs_of policy.swaps slot) message) sent
         → All (IsSentThat (LiesInFlowspace policy.rules slot) (SendsOwnPacket (IsKeptHeader state) policy.rules slot)) sent }
     ensures ports { (policy : SwitchView) (known : List (List ℕ)) (state : SliceState) (slot : ℕ) (message : List ℕ) (sent : List (List ℕ))
-        → AreNormal policy.rules → KeepsRanged state → All (λ byte. byte < 256) message → AreSentOn policy.rules slot known state (read_controller message) sent
+        → AreNormal policy.rules → KeepsRanged state → All (λ byte. byte < 256) message → AreSentOn policy.rules slot known state (read_turned (pairs_of policy.swaps slot) message) sent
         → All (IsSentThat (OutputsToOwnPorts policy.rules slot) (SendsToOwnPorts policy.rules slot)) sent }
     ensures headers { (policy : SwitchView) (known : List (List ℕ)) (state : SliceState) (slot : ℕ) (message : List ℕ) (sent : List (List ℕ))
-        → IsSwitchPolicy policy.slices policy.rules → AreNormal policy.rules → KeepsRanged state → All (λ byte. byte < 256) message → AreSentOn policy.rules slot known state (read_controller message) sent
+        → IsSwitchPolicy policy.slices policy.rules → AreNormal policy.rules → KeepsRanged state → All (λ byte. byte < 256) message → AreSentOn policy.rules slot known state (read_turned (pairs_of policy.swaps slot) message) sent
         → All (IsSentThat (LeavesOtherHeaders policy.rules slot) ChangesNoTable) sent }
     ensures states { (policy : PolicyView) (h : List Timed) (slot : ℕ) (state : SliceState) → SliceStands (settings_in policy slot h) (side_of policy slot h).sight state → KeepsWritten (rules_in policy h) slot state }
 {}

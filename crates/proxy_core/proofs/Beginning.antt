@@ -25,7 +25,7 @@ use Rattle.slice_words.specs.Standing.{SliceStands}
 use Rattle.desk_words.specs.declared.event.Event.TheVariants.{SwitchMsg}
 use Rattle.desk_words.specs.declared.phase.Phase.{Phase}
 use Rattle.desk_words.specs.declared.phase.Phase.TheVariants.{Begun}
-use Rattle.desk_words.specs.Openings.{ends_switch, features_said, features_told, opening_after, known_after, rules_of, KnownSwitch, switch_after}
+use Rattle.desk_words.specs.Openings.{ends_switch, features_said, features_told, opening_after, known_after, rules_of, swaps_of, KnownSwitch, switch_after}
 use Rattle.desk_words.specs.Histories.{is_slot, settings_at, own_features, SliceSide, side_start, items_of, phase_items, opening_items, with_shown}
 use Rattle.desk_words.specs.Sent.{echo_said, echo_for}
 use Rattle.desk_words.specs.Operations.{slice_limit}
@@ -129,6 +129,7 @@ session_begins p switch sides qs moment message features session fit opens begun
       told = now ∙ ap (λ (f : Features). Some f) (sym b.told);
       slices = b.slices;
       rules = b.rules ∙ ap (rules_of p) (sym now);
+      swaps = b.swaps ∙ ap (swaps_of p) (sym now);
       known = b.known ∙ sym (ap (λ (phase : Phase). known_after phase switch.known (SwitchMsg message)) begun
           ∙ ap (λ (t : Option Features). elim t [ None ↦ switch.known | Some f ↦ first_known f.ports ]) told);
       states_count = b.states.count;

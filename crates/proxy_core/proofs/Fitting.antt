@@ -6,7 +6,7 @@ use Rattle.flowspace.specs.Policies.{PolicyView}
 use Rattle.port_view.specs.SlicePorts.{ports_of_slice}
 use Rattle.slice_words.specs.Items.{Settings, settings_of}
 use Rattle.desk_words.specs.declared.event.Timed.{Timed}
-use Rattle.desk_words.specs.Openings.{rules_of, opening_of, switch_of}
+use Rattle.desk_words.specs.Openings.{rules_of, swaps_of, opening_of, switch_of}
 use Rattle.desk_words.specs.Histories.{is_slot, settings_at, own_ports, side_of, is_open}
 use Rattle.desk_words.proofs.Alone.{has_told, opened_told, blind}
 use Rattle.desk_words.proofs.Silence.{untold, sees_nothing}
@@ -23,9 +23,9 @@ told_some (Some features) is = (features, refl)
 -- ---- the settings of a slot of the policy
 
 pub settings_known : (policy : PolicyView) (slot : ℕ) (told : Option Features) (slice : Slice) → slice_get policy.slices slot ≡ Some slice
-    → settings_at policy slot told ≡ settings_of slice slot (rules_of policy told)
+    → settings_at policy slot told ≡ settings_of slice slot (rules_of policy told) (swaps_of policy told)
 settings_known policy slot told slice is =
-    ap (λ (o : Option Slice). elim o [ None ↦ record { slot = slot; rate = 0; burst = 0; quota = 0; patterns = [] } | Some one ↦ settings_of one slot (rules_of policy told) ]) is
+    ap (λ (o : Option Slice). elim o [ None ↦ record { slot = slot; rate = 0; burst = 0; quota = 0; patterns = []; swaps = [] } | Some one ↦ settings_of one slot (rules_of policy told) (swaps_of policy told) ]) is
 
 pub ports_same : (policy : PolicyView) (slot : ℕ) (told : Option Features) (known : List (List ℕ)) → is_slot policy slot ≡ true
     → own_ports (settings_at policy slot told) known ≡ ports_of_slice (rules_of policy told) slot known

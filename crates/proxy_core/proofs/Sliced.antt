@@ -4,8 +4,10 @@ use Rattle.std.proofs.lemmas.Bool.{cases_Bool, eqb-false, and_parts}
 use Rattle.of10_port.specs.declared.features.Features.{Features}
 use Rattle.flowspace.specs.declared.slices.Slice.{Slice}
 use Rattle.flowspace.specs.declared.rules.Rule.{Rule}
+use Rattle.flowspace.specs.declared.swaps.Swap.{Swap}
 use Rattle.flowmod_expand.specs.Pieces.{writes_of}
 use Rattle.flowspace.specs.Policies.{PolicyView}
+use Rattle.flowspace.specs.Swaps.{pairs_of}
 use Rattle.port_view.specs.SlicePorts.{ports_of_slice}
 use Rattle.flow_book.specs.declared.state.SliceState.{SliceState}
 use Rattle.outbox.specs.Queues.{Queue, push_all, OutboxState, QueueStands}
@@ -67,7 +69,7 @@ stays_same old new policy phase lane now p switch sides qs ql body = record {
 
 -- memory that a session keeps changes nothing
 pub spare_stands : (session : Session) (spare : Spare) → StandsOn session (record session { spare = spare })
-spare_stands session spare p switch sides qs s = record { told = s.told; slices = s.slices; rules = s.rules; known = s.known; states_count = s.states_count; queues_count = s.queues_count; each = s.each }
+spare_stands session spare p switch sides qs s = record { told = s.told; slices = s.slices; rules = s.rules; swaps = s.swaps; known = s.known; states_count = s.states_count; queues_count = s.queues_count; each = s.each }
 
 -- what it stood for after an event it stands for still
 pub acts_stays : (old mid new : Desk) (timed : Timed) (go : Bool) → Acts old timed go mid → Stays mid new → Acts old timed go new
@@ -172,6 +174,7 @@ sees p switch sides qs a slot fit s here up =
     record {
       same_slot = ap (λ (k : Settings). k.slot) known;
       same_patterns = ap (λ (k : Settings). k.patterns) known ∙ ap (λ (rules : List Rule). writes_of rules slot) (sym s.rules);
+      same_swaps = ap (λ (k : Settings). k.swaps) known ∙ ap (λ (swaps : List Swap). pairs_of swaps slot) (sym s.swaps);
       same_quota = ap (λ (slices : List Slice). option_map (λ (of : Slice). of.quota) (slice_get slices slot)) s.slices ∙ ap (option_map (λ (of : Slice). of.quota)) slice.1 ∙ ap (λ (k : Settings). Some k.quota) (sym known);
       opening = own_features (settings_at p slot (Some a.features)) a.features;
       opened = saw.features_seen;

@@ -12,7 +12,7 @@ use Rattle.desk_words.specs.declared.event.Event.{Event}
 use Rattle.desk_words.specs.declared.event.Timed.{Timed}
 use Rattle.desk_words.specs.declared.phase.Phase.{Phase}
 use Rattle.desk_words.specs.declared.phase.Phase.TheVariants.{Opened}
-use Rattle.desk_words.specs.Openings.{rules_of, opening_after, known_after, KnownSwitch, switch_after}
+use Rattle.desk_words.specs.Openings.{rules_of, swaps_of, opening_after, known_after, KnownSwitch, switch_after}
 use Rattle.desk_words.specs.Histories.{is_slot, settings_at, SliceSide, items_of, phase_items, event_items, is_any_given, number_told, came_with, with_shown}
 use Rattle.desk_words.specs.Sent.{sent_with}
 use Rattle.desk_words.specs.Operations.{slice_limit, empties}
@@ -94,6 +94,7 @@ session_becomes p switch later sides sides_then qs qs_then old new s stay same_p
   told = stay ∙ s.told ∙ ap (λ (f : Features). Some f) (sym same_features);
   slices = ap (λ (v : SwitchView). v.slices) same_policy ∙ s.slices;
   rules = ap (λ (v : SwitchView). v.rules) same_policy ∙ s.rules ∙ ap (rules_of p) (sym stay);
+  swaps = ap (λ (v : SwitchView). v.swaps) same_policy ∙ s.swaps ∙ ap (swaps_of p) (sym stay);
   known = same_ports;
   states_count = same_states ∙ s.states_count;
   queues_count = same_queues ∙ s.queues_count;

@@ -15,7 +15,7 @@ use Rattle.desk_words.specs.declared.taken.Taken.{Taken}
 use Rattle.desk_words.specs.declared.taken.Taken.TheVariants as takens
 use Rattle.desk_words.specs.declared.taken.Taken.TheVariants.{Message, NotOpen}
 use Rattle.desk_words.specs.declared.verdict.Verdict.{Verdict}
-use Rattle.desk_words.specs.Openings.{ends_switch, rules_of, opening_of, phase_of, phase_after, KnownSwitch, switch_after, switch_of}
+use Rattle.desk_words.specs.Openings.{ends_switch, rules_of, swaps_of, opening_of, phase_of, phase_after, KnownSwitch, switch_after, switch_of}
 use Rattle.desk_words.specs.Histories.{is_slot, settings_at, SliceSide, side_start, side_of, is_open, is_slice_up, side_after, is_up_in}
 use Rattle.desk_words.specs.Sent.{sent_with, put_with, lane_in, echo_for}
 use Rattle.desk_words.specs.Verdicts.{is_ended, is_before, is_closing}
@@ -38,6 +38,7 @@ pub record SessionStands (policy : PolicyView) (switch : KnownSwitch) (sides : �
   pub told : switch.features ≡ Some session.features
   pub slices : session.policy.slices ≡ policy.slices
   pub rules : session.policy.rules ≡ rules_of policy switch.features
+  pub swaps : session.policy.swaps ≡ swaps_of policy switch.features
   pub known : session.ports ≡ switch.known
   pub states_count : length session.states.items ≡ length policy.slices
   pub queues_count : length session.queues.items ≡ length policy.slices

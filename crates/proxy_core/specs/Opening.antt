@@ -4,6 +4,7 @@ use Rattle.of10_port.specs.declared.features.Features.{Features}
 use Rattle.flowspace.specs.declared.slices.Slice.{Slice}
 use Rattle.flowspace.specs.Order.{rules_on}
 use Rattle.flowspace.specs.Policies.{PolicyView}
+use Rattle.flowspace.specs.Swaps.{swaps_on}
 use Rattle.port_view.specs.KnownPorts.{first_known}
 use Rattle.flow_book.specs.declared.state.SliceState.{SliceState}
 use Rattle.flow_book.specs.States.{IsFreshState}
@@ -94,6 +95,7 @@ pub record Begins (policy : PolicyView) (features : Features) (session : Session
   pub told : session.features ≡ features
   pub slices : session.policy.slices ≡ policy.slices
   pub rules : session.policy.rules ≡ rules_on features.datapath policy.rules
+  pub swaps : session.policy.swaps ≡ swaps_on features.datapath policy.swaps
   pub known : session.ports ≡ first_known features.ports
   pub states : AreFresh policy.slices session.states.items
   pub queues : AreEmpty (length policy.slices) session.queues.items

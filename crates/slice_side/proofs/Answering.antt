@@ -1,9 +1,14 @@
 -- What follows from a message by what was read of it is what follows from the item.
-use Rattle.std.proofs.Common.{◌≡◌, ℕ, Bool, true, if◌then◌else◌, List, refl, sym, ap, ◌∙◌, subst, true≢false, Ok, Err}
+use Rattle.std.proofs.Common.{◌≡◌, ℕ, Bool, true, if◌then◌else◌, List, refl, sym, ap, ◌∙◌, subst, true≢false, false, Ok, Err}
 use Rattle.of10_port.specs.declared.features.Features.{Features}
 use Rattle.of10_message.specs.declared.controller.FromController.{FromController}
 use Rattle.of10_message.specs.declared.controller.FromController.TheVariants as said
+use Rattle.of10_message.specs.Controller.{read_controller}
 use Rattle.flowspace.specs.Policies.{SwitchView}
+use Rattle.flowspace.specs.Swaps.{Pairs}
+use Rattle.port_turns.specs.Turned.{exchanged}
+use Rattle.port_turns.specs.Readings.{read_turned, turned_read}
+use Rattle.port_turns.proofs.Same.{read_turned_is}
 use Rattle.port_view.specs.SlicePorts.{ports_of_slice, features_with}
 use Rattle.flow_book.specs.declared.state.SliceState.{SliceState}
 use Rattle.slice_words.specs.Messages.{Reading, asks_switch}
@@ -13,7 +18,7 @@ use Rattle.slice_words.specs.Answers.{unread_answer, rated_answer, read_answer, 
 use Rattle.slice_words.specs.Alone.{answer_to}
 use Rattle.slice_words.specs.Standing.{SliceStands, past_of}
 use Rattle.slice_side.specs.declared.reaction.Reaction.{Reaction}
-use Rattle.slice_side.specs.Reactions.{Sees, Shown, Follows, IsReaction}
+use Rattle.slice_side.specs.Reactions.{Sees, Shown, Follows, IsReaction, physical_said}
 
 -- what the state and the switch say is what the slice saw
 pub shown : (s : Settings) (sight : Sight) (state : SliceState) (policy : SwitchView) (known : List (List ℕ)) (features : Features) (slot : ℕ)
@@ -26,6 +31,31 @@ shown s sight state policy known features slot stands sees = record {
       ap (λ (ports : List (List ℕ)). features_with sees.opening ports) sees.same_ports
       ∙ ap (λ (f : Features). record f { ports = ports_of_slice policy.rules slot known }) sees.same_features;
 }
+
+-- what is read of a message with physical port numbers, by what is read of it as it came
+pub read_pairs : (pairs : Pairs) (message : List ℕ) (read : Reading) → read_controller message ≡ read → read_turned pairs message ≡ turned_read (exchanged pairs) read
+read_pairs pairs message read is = read_turned_is pairs message ∙ ap (turned_read (exchanged pairs)) is
+
+-- the slice's own pairs are those of the switch's policy
+pub read_physical : (s : Settings) (pairs : Pairs) (message : List ℕ) (read : Reading) → s.swaps ≡ pairs → read_controller message ≡ read → message_read s message ≡ turned_read (exchanged pairs) read
+read_physical s pairs message read same is = ap (λ (own : Pairs). read_turned own message) same ∙ read_pairs pairs message read is
+
+-- a message that asks nothing of the switch names no port
+pub names_no_port : (policy : SwitchView) (slot : ℕ) (asked : FromController) → asks_switch (Ok asked) ≡ false → physical_said policy slot asked ≡ asked
+names_no_port policy slot said.Hello none = refl
+names_no_port policy slot said.Error none = refl
+names_no_port policy slot (said.EchoRequest body) none = refl
+names_no_port policy slot said.EchoReply none = refl
+names_no_port policy slot said.Vendor none = refl
+names_no_port policy slot said.FeaturesRequest none = refl
+names_no_port policy slot said.GetConfigRequest none = refl
+names_no_port policy slot (said.SetConfig config) none = refl
+names_no_port policy slot said.PortMod none = refl
+names_no_port policy slot said.BarrierRequest none = refl
+names_no_port policy slot (said.PacketOut m) none = absurd (true≢false none)
+names_no_port policy slot (said.FlowMod m) none = absurd (true≢false none)
+names_no_port policy slot (said.StatsRequest request) none = absurd (true≢false none)
+names_no_port policy slot (said.QueueGetConfigRequest queues) none = absurd (true≢false none)
 
 -- what follows from what was read
 abbrev pub answer_read : Settings → List Item → ℕ → List ℕ → Reading → Answer

@@ -18,6 +18,7 @@ use Rattle.slice_words.specs.Alone.{Answering, played, answer_to}
 use Rattle.slice_words.specs.Standing.{SliceStands, past_of, held_as}
 use Rattle.slice_words.proofs.Holding.{filter_of_map, filter_same, filter_all}
 use Rattle.slice_words.proofs.AnswerKinds.{message_holds}
+use Rattle.slice_words.proofs.ReadAlike.{read_ends, read_wants, read_asks}
 use Rattle.of10_flow.specs.declared.flow_mod.FlowMod.{FlowMod}
 use Rattle.of10_flow.specs.declared.protocol.TheConstants.{SEND_FLOW_REM}
 use Rattle.of10_flow.specs.Tables.{has_flag}
@@ -78,7 +79,7 @@ ending_is_plain (Err fault) is = (refl, refl)
 
 -- ---- what is sent on
 
-unasked : (s : Settings) (view : List Item) (past : List Past) (moment : ℕ) (message : List ℕ) → is_question message ≡ false → (message_answer s view past moment message).to_switch ≡ []
+unasked : (s : Settings) (view : List Item) (past : List Past) (moment : ℕ) (message : List ℕ) → asks_switch (message_read s message) ≡ false → (message_answer s view past moment message).to_switch ≡ []
 unasked s view past moment message none =
     message_holds (λ (ends_ : Bool) (a : Answer). a.to_switch ≡ []) s view past moment message (record {
       bad = refl;
@@ -101,7 +102,7 @@ by_up true a none = none
 by_up false a none = refl
 
 -- for a message that asks nothing, nothing is sent on
-pub sends_nothing : (s : Settings) (view : List Item) (moment : ℕ) (message : List ℕ) → is_question message ≡ false → is_any (answer_to s view (Msg message moment)).to_switch ≡ false
+pub sends_nothing : (s : Settings) (view : List Item) (moment : ℕ) (message : List ℕ) → asks_switch (message_read s message) ≡ false → is_any (answer_to s view (Msg message moment)).to_switch ≡ false
 sends_nothing s view moment message none = ap is_any (by_up (is_up view) _ (unasked s view (past_of s view) moment message none))
 
 -- ---- the calls
@@ -112,10 +113,10 @@ view_in-played answering (item ∷ view) = ap (λ (items : List Item). item ∷ 
 
 -- what a message does: it ends its connection, asks the rate, has something sent on, and sets a length
 pub record Does (s : Settings) (view : List Item) (message : List ℕ) (moment : ℕ) (ends asks sends : Bool) (set : Option ℕ) : Type 0 where
-  pub ending : is_dismissing message ≡ ends
-  pub asking : (is_up view && is_question message) ≡ asks
+  pub ending : ends_connection (message_read s message) ≡ ends
+  pub asking : (is_up view && asks_switch (message_read s message)) ≡ asks
   pub sending : is_any (answer_to s view (Msg message moment)).to_switch ≡ sends
-  pub setting : length_set message ≡ set
+  pub setting : length_wanted (message_read s message) ≡ set
 
 abbrev requests_made : Bool → Bool → Settings → List ℕ → List RequestCall → List RequestCall
 requests_made ends sends s message calls = (if ends then Forget ∷ [] else if sends then Issue (asked_of (message_read s message) message) ∷ [] else []) ++ calls
@@ -155,16 +156,20 @@ questions_with s view message moment asks is =
 pub stands_with : (s : Settings) (sight : Sight) (message : List ℕ) (moment : ℕ) (ends asks sends : Bool) (set : Option ℕ) (old new : SliceState)
     → Does s sight.view message moment ends asks sends set → SliceStands s sight old → Changed s sight message moment ends asks sends set old new
     → SliceStands s (with_item (Msg message moment) sight) new
-stands_with s sight message moment ends asks sends set old new does stands changed = record {
-  up = changed.up_is ∙ rw does.ending refl;
-  miss_send_len = changed.length_is ∙ rw (does.ending, does.setting, stands.miss_send_len) refl;
+stands_with s sight message moment ends asks sends set old new does stands changed =
+  let ending : is_dismissing message ≡ ends = sym (read_ends s message) ∙ does.ending in
+  let setting : length_set message ≡ set = sym (read_wants s message) ∙ does.setting in
+  let asking : (is_up sight.view && is_question message) ≡ asks = ap (λ (asked : Bool). is_up sight.view && asked) (sym (read_asks s message)) ∙ does.asking in
+  record {
+  up = changed.up_is ∙ rw ending refl;
+  miss_send_len = changed.length_is ∙ rw (ending, setting, stands.miss_send_len) refl;
   moment = changed.moment_is;
-  requests = subst (λ (calls : List RequestCall). RequestsStand s.slot calls new.xids) (rw (does.ending, does.sending) refl) changed.requests;
-  collections = subst (λ (calls : List CollectionCall). CollectionsStand calls new.collections) (rw (does.ending, does.sending) refl) changed.collections;
-  bucket = subst (λ (asked : List ℕ). BucketStands asked new.bucket) (sym (questions_with s sight.view message moment asks does.asking)) changed.bucket;
+  requests = subst (λ (calls : List RequestCall). RequestsStand s.slot calls new.xids) (rw (ending, does.sending) refl) changed.requests;
+  collections = subst (λ (calls : List CollectionCall). CollectionsStand calls new.collections) (rw (ending, does.sending) refl) changed.collections;
+  bucket = subst (λ (asked : List ℕ). BucketStands asked new.bucket) (sym (questions_with s sight.view message moment asks asking)) changed.bucket;
   book = subst (λ (calls : List BookCall). BookStands calls new.book) (rw does.sending refl) changed.book;
   given = changed.given ∙ stands.given;
-  held = changed.held ∙ rw does.ending refl;
+  held = changed.held ∙ rw ending refl;
   rate = changed.rate ∙ stands.rate;
   burst = changed.burst ∙ stands.burst;
 }
@@ -207,7 +212,7 @@ pub heard : (s : Settings) (sight : Sight) (item : Item) (t m : ℕ) (old : Slic
 heard s sight (Msg message moment) t m old at stands is =
     let facts = is.1 in
     stands_with s sight message moment false false false None old (record old { moment = m })
-    (record { ending = facts.0; asking = no_and (is_up sight.view) (is_question message) facts.2; sending = sends_nothing s sight.view moment message facts.2; setting = facts.1 })
+    (record { ending = facts.0; asking = no_and (is_up sight.view) (asks_switch (message_read s message)) facts.2; sending = sends_nothing s sight.view moment message facts.2; setting = facts.1 })
     stands
     (record { moment_is = at ∙ ap₂ max facts.3 stands.moment; up_is = stands.up; length_is = refl; requests = stands.requests; collections = stands.collections; bucket = stands.bucket; rate = refl; burst = refl; book = stands.book; given = refl; held = held_still s sight message moment old.buffers.held (sends_nothing s sight.view moment message facts.2) stands.held })
 heard s sight item t m old at stands is = absurd is
@@ -218,7 +223,7 @@ set s sight (Msg message moment) t wanted m old at stands is =
     let facts = is.1 in
     let plain = set_is_plain (message_read s message) wanted facts.0 in
     stands_with s sight message moment false false false (Some wanted) old (record old { moment = m; miss_send_len = wanted })
-    (record { ending = plain.0; asking = no_and (is_up sight.view) (is_question message) plain.1; sending = sends_nothing s sight.view moment message plain.1; setting = facts.0 })
+    (record { ending = plain.0; asking = no_and (is_up sight.view) (asks_switch (message_read s message)) plain.1; sending = sends_nothing s sight.view moment message plain.1; setting = facts.0 })
     stands
     (record { moment_is = at ∙ ap₂ max facts.1 stands.moment; up_is = stands.up; length_is = refl; requests = stands.requests; collections = stands.collections; bucket = stands.bucket; rate = refl; burst = refl; book = stands.book; given = refl; held = held_still s sight message moment old.buffers.held (sends_nothing s sight.view moment message plain.1) stands.held })
 set s sight item t wanted m old at stands is = absurd is
@@ -240,7 +245,7 @@ dismissed s sight (Msg message moment) t m old new at forgot stands is =
     let facts = is.1 in
     let plain = ending_is_plain (message_read s message) facts.0 in
     stands_with s sight message moment true false false None old (record new { up = false })
-    (record { ending = facts.0; asking = no_and (is_up sight.view) (is_question message) plain.0; sending = sends_nothing s sight.view moment message plain.0; setting = plain.1 })
+    (record { ending = facts.0; asking = no_and (is_up sight.view) (asks_switch (message_read s message)) plain.0; sending = sends_nothing s sight.view moment message plain.0; setting = plain.1 })
     stands
     (record {
       moment_is = forgot.same_moment ∙ at ∙ ap₂ max facts.1 stands.moment;
@@ -270,7 +275,7 @@ rated s sight (Msg message moment) t m old bucket at asks stands is =
     let plain = question_is_plain (message_read s message) facts.0 in
     let now : m ≡ max moment (latest_moment sight.view) = at ∙ ap₂ max facts.2 stands.moment in
     stands_with s sight message moment false true false None old (record old { moment = m; bucket = bucket })
-    (record { ending = plain.0; asking = both_true (is_up sight.view) (is_question message) is.0 facts.0; sending = facts.1; setting = plain.1 })
+    (record { ending = plain.0; asking = both_true (is_up sight.view) (asks_switch (message_read s message)) is.0 facts.0; sending = facts.1; setting = plain.1 })
     stands
     (record {
       moment_is = now;
@@ -306,7 +311,7 @@ module _ (s : Settings) (sight : Sight) (message : List ℕ) (at : ℕ) (asked :
       let now : new.moment ≡ max at (latest_moment sight.view) = made.moment ∙ ap (max at) stands.moment in
       let calls = request_calls s (past_of s sight.view) in
       stands_with s sight message at false true true None old (record new { book = book; collections = collections })
-      (record { ending = plain.0; asking = both_true (is_up sight.view) (is_question message) up asking; sending = sent; setting = plain.1 })
+      (record { ending = plain.0; asking = both_true (is_up sight.view) (asks_switch (message_read s message)) up asking; sending = sent; setting = plain.1 })
       stands
       (record {
         moment_is = now;

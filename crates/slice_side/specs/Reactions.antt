@@ -7,9 +7,13 @@ use Rattle.of10_flow.specs.declared.packet_out.PacketOut.{PacketOut}
 use Rattle.of10_flow.specs.declared.protocol.TheConstants.{SEND_FLOW_REM}
 use Rattle.of10_flow.specs.Tables.{has_flag}
 use Rattle.of10_port.specs.declared.features.Features.{Features}
+use Rattle.of10_message.specs.declared.controller.FromController.{FromController}
 use Rattle.of10_message.specs.declared.controller.FromController.TheVariants as said
 use Rattle.flowspace.specs.declared.rules.Rule.{Rule}
 use Rattle.flowspace.specs.Policies.{SwitchView}
+use Rattle.flowspace.specs.Swaps.{pairs_of}
+use Rattle.port_turns.specs.Turned.{exchanged}
+use Rattle.port_turns.specs.Readings.{turned_said}
 use Rattle.flowmod_expand.specs.Pieces.{pieces_within, writes_of}
 use Rattle.port_view.specs.SlicePorts.{ports_of_slice, features_with}
 use Rattle.xid_map.specs.declared.asked.Asked.{Asked}
@@ -30,10 +34,15 @@ use Rattle.slice_side.specs.declared.change.Modification.{Modification}
 
 -- ---- where a message is answered
 
--- what is said of the switch is what a slice saw of it: the matches of the rules that the slice writes are its own, and its quota is; the features are those of its opening but for the ports, and of the known ports its own are those that it knows; and it is up
+-- what is read of a slice's message, with physical port numbers
+abbrev pub physical_said : SwitchView → ℕ → FromController → FromController
+physical_said policy slot message = turned_said (exchanged (pairs_of policy.swaps slot)) message
+
+-- what is said of the switch is what a slice saw of it: the matches of the rules that the slice writes are its own, and its swaps and its quota are; the features are those of its opening but for the ports, and of the known ports its own are those that it knows; and it is up
 pub record Sees (s : Settings) (view : List Item) (policy : SwitchView) (known : List (List ℕ)) (features : Features) (slot : ℕ) : Type 0 where
   pub same_slot : s.slot ≡ slot
   pub same_patterns : s.patterns ≡ writes_of policy.rules slot
+  pub same_swaps : s.swaps ≡ pairs_of policy.swaps slot
   pub same_quota : option_map (λ slice. slice.quota) (slice_get policy.slices slot) ≡ Some s.quota
   pub opening : Features
   pub opened : features_in view ≡ Some opening

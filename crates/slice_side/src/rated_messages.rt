@@ -9,7 +9,7 @@ ghost use Rattle.slice_words.specs.Items.{Settings, Sight};
 ghost use Rattle.slice_words.specs.Standing.{SliceStands, past_of};
 ghost use Rattle.slice_words.specs.FlowMods.{ground_of};
 ghost use Rattle.slice_words.specs.Answers.{flow_mod_answer, packet_out_answer, rated_answer};
-ghost use Rattle.slice_side.specs.Reactions.{Sees, Follows, IsSoundChange};
+ghost use Rattle.slice_side.specs.Reactions.{Sees, Follows, IsSoundChange, physical_said};
 ghost use Rattle.slice_side.specs.Checking.{AreSentOn};
 
 use crate::around::Around;
@@ -25,6 +25,7 @@ use of10_ctl::Frame;
 use of10_flow::{FlowMod, PacketOut};
 use of10_match::Match;
 use of10_message::FromController;
+use port_turns::{turned_flow_mod, turned_packet_out, turned_queues, turned_request};
 use std::alloc::{AllocError, Global};
 use xid_map::AskKind;
 
@@ -114,7 +115,8 @@ fn packet_out(
     }
 }
 
-/// A message that asks something of the switch: one that passes the rate is refused.
+/// A message that asks something of the switch, taken with physical port numbers: one that passes the rate is
+/// refused.
 pub(crate) fn question(
     alloc: Global,
     around: &Around<'_>,
@@ -124,8 +126,8 @@ pub(crate) fn question(
 ) -> Result<Reaction, AllocError>
     requires { asks_switch (Ok message.now) ≡ true }
     ensures sound { IfOk result (λ r. IsSoundChange r.change) }
-    ensures sent { IfOk result (λ r. AreSentOn around.now.policy.now.rules around.now.slot around.now.ports.now around.now.state.now (Ok message.now) r.to_switch.items) }
-    ensures follows { (s : Settings) (sight : Sight) → SliceStands s sight around.now.state.now → Sees s sight.view around.now.policy.now around.now.ports.now around.now.features.now around.now.slot → IfOk result (Follows s sight frame.now (Ok message.now) (rated_answer s sight.view (past_of s sight.view) moment message.now frame.now) moment) }
+    ensures sent { IfOk result (λ r. AreSentOn around.now.policy.now.rules around.now.slot around.now.ports.now around.now.state.now (Ok (physical_said around.now.policy.now around.now.slot message.now)) r.to_switch.items) }
+    ensures follows { (s : Settings) (sight : Sight) → SliceStands s sight around.now.state.now → Sees s sight.view around.now.policy.now around.now.ports.now around.now.features.now around.now.slot → IfOk result (Follows s sight frame.now (Ok (physical_said around.now.policy.now around.now.slot message.now)) (rated_answer s sight.view (past_of s sight.view) moment (physical_said around.now.policy.now around.now.slot message.now) frame.now) moment) }
 {
     let latest = moment.max(around.state.moment);
     if !around.state.bucket.conforms(latest) {
@@ -138,16 +140,22 @@ pub(crate) fn question(
         );
     }
     match message {
-        FromController::FlowMod(m) => flow_mod(alloc, around, &m.copied(alloc)?, frame, moment),
+        FromController::FlowMod(m) => {
+            let m = turned_flow_mod(around.policy, around.slot, m.copied(alloc)?);
+            flow_mod(alloc, around, &m, frame, moment)
+        }
         FromController::PacketOut(m) => {
-            packet_out(alloc, around, &m.copied(alloc)?, frame, moment)
+            let m = turned_packet_out(around.policy, around.slot, m.copied(alloc)?);
+            packet_out(alloc, around, &m, frame, moment)
         }
         FromController::StatsRequest(request) => {
-            statistics(alloc, around, request, frame, moment)
+            let request = turned_request(around.policy, around.slot, request);
+            statistics(alloc, around, &request, frame, moment)
         }
         FromController::BarrierRequest => barrier(alloc, around, frame, moment),
         FromController::QueueGetConfigRequest(question) => {
-            queues(alloc, around, question, frame, moment)
+            let question = turned_queues(around.policy, around.slot, question);
+            queues(alloc, around, &question, frame, moment)
         }
         _ => unreachable!(),
     }

@@ -1,5 +1,6 @@
 ghost use Rattle.std.specs.Prelude.{◌≡◌, IfOk, Ok};
-ghost use Rattle.of10_message.specs.Controller.{read_controller};
+ghost use Rattle.flowspace.specs.Swaps.{pairs_of};
+ghost use Rattle.port_turns.specs.Readings.{read_turned};
 ghost use Rattle.slice_words.specs.Messages.{asks_switch};
 ghost use Rattle.slice_words.specs.Items.{Settings, Sight, Msg};
 ghost use Rattle.slice_words.specs.Standing.{SliceStands};
@@ -48,7 +49,7 @@ pub fn react(
     moment: u64,
 ) -> Result<Reaction, AllocError>
     ensures reaction { (s : Settings) (sight : Sight) → SliceStands s sight state.now → Sees s sight.view policy.now ports.now features.now slot → IfOk result (IsReaction s sight (Msg frame.now moment)) }
-    ensures sent { IfOk result (λ r. AreSentOn policy.now.rules slot ports.now state.now (read_controller frame.now) r.to_switch.items) }
+    ensures sent { IfOk result (λ r. AreSentOn policy.now.rules slot ports.now state.now (read_turned (pairs_of policy.now.swaps slot) frame.now) r.to_switch.items) }
     ensures sound { IfOk result (λ r. IsSoundChange r.change) }
 {
     let around = Around {

@@ -1,5 +1,5 @@
 -- What holds of each kind of answer to a message holds of the answer.
-use Rattle.std.proofs.Common.{◌≡◌, refl, ℕ, ◌==◌, Bool, true, false, if◌then◌else◌, List, [], ◌∷◌, length, Option, Some, None, Ok, Err}
+use Rattle.std.proofs.Common.{◌≡◌, refl, subst, ℕ, ◌==◌, Bool, true, false, if◌then◌else◌, List, [], ◌∷◌, length, Option, Some, None, Ok, Err}
 use Rattle.of10_model.proofs.Results.{either}
 use Rattle.of10_ctl.specs.Frames.{error_of, echo_reply_to}
 use Rattle.of10_flow.specs.declared.flow_mod.FlowMod.{FlowMod}
@@ -22,6 +22,7 @@ use Rattle.slice_words.specs.FlowMods.{ground_of, flow_mod_fault, sent_on, not_p
 use Rattle.slice_words.specs.PacketOuts.{packet_out_fault, sent_out}
 use Rattle.slice_words.specs.Questions.{may_ask, asking, statistics_asked, barrier_asked, queues_asked}
 use Rattle.slice_words.specs.Answers.{error_for, refused, refusal_of, no_common_version, bad_request_length, bad_vendor, config_told, unread_answer, forwarded_answer, keeps_rate, rated_answer, read_answer, message_answer}
+use Rattle.slice_words.proofs.ReadAlike.{read_ends}
 
 -- a property of answers, beside whether the connection is to end, holds of each kind of answer to a message
 pub record HoldsOfEach (P : Bool → Answer → Type 0) (s : Settings) (view : List Item) (past : List Past) (message : List ℕ) : Type 0 where
@@ -126,4 +127,5 @@ by_reading P s view past moment message (Err (BadForm fault)) each read = each.r
 
 pub message_holds : (P : Bool → Answer → Type 0) (s : Settings) (view : List Item) (past : List Past) (moment : ℕ) (message : List ℕ) → HoldsOfEach P s view past message
     → P (is_dismissing message) (message_answer s view past moment message)
-message_holds P s view past moment message each = by_reading P s view past moment message (message_read s message) each refl
+message_holds P s view past moment message each =
+    subst (λ (ends : Bool). P ends (message_answer s view past moment message)) (read_ends s message) (by_reading P s view past moment message (message_read s message) each refl)

@@ -1,3 +1,4 @@
+pub mod ReadAlike
 pub mod Joining
 pub mod AnswerKinds
 pub mod Dismissing

@@ -6,8 +6,10 @@ use Rattle.of10_port.specs.declared.features.Features.{Features}
 use Rattle.of10_port.specs.declared.status.PortStatus.{PortStatus}
 use Rattle.flowspace.specs.declared.slices.Slice.{Slice}
 use Rattle.flowspace.specs.declared.rules.Rule.{Rule}
+use Rattle.flowspace.specs.declared.swaps.Swap.{Swap}
+use Rattle.flowspace.specs.Swaps.{Pairs, pairs_of}
 use Rattle.flowspace.specs.Owners.{has_port}
-use Rattle.of10_message.specs.Controller.{read_controller}
+use Rattle.port_turns.specs.Readings.{turn_in, read_turned}
 use Rattle.port_view.specs.KnownPorts.{changed_plainly}
 use Rattle.rate_bucket.specs.Rates.{latest as greatest}
 use Rattle.flowmod_expand.specs.Pieces.{writes_of}
@@ -15,25 +17,30 @@ use Rattle.slice_words.specs.Messages.{Reading, is_dismissing, length_set}
 
 -- ---- settings
 
--- what a slice is on one switch: its slot, its limits, and the matches of the rules that it writes there, in rule order. Who else writes or reads, and at what priorities, is no part of it
+-- what a slice is on one switch: its slot, its limits, the matches of the rules that it writes there, in rule order, and the pairs of port numbers that are exchanged for it there. Who else writes or reads, and at what priorities, is no part of it
 pub record Settings : Type 0 where
   pub slot : ℕ
   pub rate : ℕ
   pub burst : ℕ
   pub quota : ℕ
   pub patterns : List Pattern
+  pub swaps : Pairs
 
--- the settings of the slice at a slot, among the rules of a switch in rule order
-abbrev pub settings_of : Slice → ℕ → List Rule → Settings
-settings_of slice slot rules = record { slot = slot; rate = slice.rate; burst = slice.burst; quota = slice.quota; patterns = writes_of rules slot }
+-- the settings of the slice at a slot, among the rules of a switch in rule order and the swaps that hold there
+abbrev pub settings_of : Slice → ℕ → List Rule → List Swap → Settings
+settings_of slice slot rules swaps = record { slot = slot; rate = slice.rate; burst = slice.burst; quota = slice.quota; patterns = writes_of rules slot; swaps = pairs_of swaps slot }
 
 -- a rule by which a slice alone writes a match
 abbrev pub lone_rule : ℕ → Pattern → Rule
 lone_rule slot m = record { switch = None; priority = 0; pattern = m; writer = Some slot; readers = 0 }
 
--- what is read of a message of the slice's controller. Of the message as it came are what is quoted of it and its transaction id, and what no number of a port decides: whether it ends the connection (is_dismissing), which length it sets (length_set), and whether it is a question (is_question)
+-- a message of the slice's controller with physical port numbers
+abbrev pub message_turned : Settings → List ℕ → List ℕ
+message_turned s message = turn_in s.swaps message
+
+-- what is read of it. Of the message as it came are what is quoted of it and its transaction id, and what no number of a port decides: whether it ends the connection (is_dismissing), which length it sets (length_set), and whether it is a question (is_question)
 abbrev pub message_read : Settings → List ℕ → Reading
-message_read s message = read_controller message
+message_read s message = read_turned s.swaps message
 
 -- the rules of a proxy that serves the slice alone
 abbrev pub lone_rules : ℕ → List Pattern → List Rule

@@ -3,15 +3,16 @@ use Rattle.std.specs.Prelude.{ℕ, ◌≡◌, ◌≤◌, ◌⊎◌, ◌&&◌, �
 use Rattle.std.specs.List.{list_any}
 use Rattle.flowspace.specs.declared.slices.Slice.{Slice}
 use Rattle.flowspace.specs.declared.rules.Rule.{Rule}
+use Rattle.flowspace.specs.declared.swaps.Swap.{Swap}
 use Rattle.flowmod_expand.specs.Pieces.{writes_of}
 use Rattle.slice_words.specs.Items.{Settings, settings_of, Item, Up, Msg, is_up, miss_send_len, moments, latest_moment, is_forgetting}
 use Rattle.slice_words.specs.Messages.{is_dismissing, length_set}
 use Rattle.slice_words.specs.Pasts.{no_answer}
 use Rattle.slice_words.specs.Alone.{answer_to, alone, with_items, sent_for}
 
--- rules with which a slice writes the same matches, in rule order, give it the same settings, whatever their priorities are, whoever reads, and whatever others write
-abbrev pub AreOfWhatItWrites : Slice → ℕ → List Rule → List Rule → Type 0
-AreOfWhatItWrites slice slot rules other = writes_of rules slot ≡ writes_of other slot → settings_of slice slot rules ≡ settings_of slice slot other
+-- rules with which a slice writes the same matches, in rule order, give it the same settings under the same swaps, whatever their priorities are, whoever reads, and whatever others write
+abbrev pub AreOfWhatItWrites : Slice → ℕ → List Swap → List Rule → List Rule → Type 0
+AreOfWhatItWrites slice slot swaps rules other = writes_of rules slot ≡ writes_of other slot → settings_of slice slot rules swaps ≡ settings_of slice slot other swaps
 
 -- what is sent for items is what is sent over the view with them, less what was sent over the view before
 abbrev pub AreJoined : Settings → List Item → List Item → Type 0

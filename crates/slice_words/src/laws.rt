@@ -3,13 +3,14 @@
 ghost use Rattle.std.specs.Prelude.{ℕ, List};
 ghost use Rattle.flowspace.specs.declared.slices.Slice.{Slice};
 ghost use Rattle.flowspace.specs.declared.rules.Rule.{Rule};
+ghost use Rattle.flowspace.specs.declared.swaps.Swap.{Swap};
 ghost use Rattle.slice_words.specs.Items.{Settings, Item};
 ghost use Rattle.slice_words.specs.Laws.{AreOfWhatItWrites, AreJoined, IsSilentWhileDown, IsUpByTheLast, EndsExactly, IsSetByTheLast, IsForgotten, IsNeverSet, IsAtLeastEach, IsOneOrZero};
 
-/// A slice's settings are its limits and the matches that it writes, in rule order: neither the priorities of
-/// the rules, nor who reads, nor what other slices write is part of them.
+/// A slice's settings are its limits, the matches that it writes, in rule order, and its own swaps: neither the
+/// priorities of the rules, nor who reads, nor what other slices write is part of them.
 pub fn settings_are_of_what_it_writes()
-    ensures { (slice : Slice) (slot : ℕ) (rules other : List Rule) → AreOfWhatItWrites slice slot rules other }
+    ensures { (slice : Slice) (slot : ℕ) (swaps : List Swap) (rules other : List Rule) → AreOfWhatItWrites slice slot swaps rules other }
 {}
 
 /// What a slice is sent over a view with more items is what it was sent before them, and then what

@@ -16,6 +16,7 @@ use Rattle.of10_message.specs.Switch.{read_switch}
 use Rattle.of10_port.specs.declared.features.Features.{Features}
 use Rattle.flowspace.specs.declared.slices.Slice.{Slice}
 use Rattle.flowspace.specs.declared.rules.Rule.{Rule}
+use Rattle.flowspace.specs.declared.swaps.Swap.{Swap}
 use Rattle.flowspace.specs.Owners.{owner_of_match}
 use Rattle.flowspace.specs.Policies.{PolicyView, IsSwitchPolicy}
 use Rattle.flowmod_expand.specs.Pieces.{writes_of}
@@ -30,7 +31,7 @@ use Rattle.slice_words.specs.Answers.{removal_told, error_told}
 use Rattle.slice_words.specs.Calls.{request_for, request_calls, collection_calls, book_calls}
 use Rattle.slice_words.specs.Standing.{past_of}
 use Rattle.desk_words.specs.declared.phase.Phase.TheVariants.{Opened}
-use Rattle.desk_words.specs.Openings.{rules_of, KnownSwitch}
+use Rattle.desk_words.specs.Openings.{rules_of, swaps_of, KnownSwitch}
 use Rattle.desk_words.specs.Histories.{is_slot, settings_at, SliceSide, removed_items, error_items}
 use Rattle.switch_side.specs.declared.change.Change.TheVariants.{Released}
 use Rattle.switch_side.specs.declared.dispatch.Dispatch.{Dispatch}
@@ -44,20 +45,20 @@ use Rattle.switch_side.proofs.Turning.{turn_at, turn_at-own, IsWithin, FollowsFr
 
 -- ---- the settings of a slot
 
-abbrev settings_by : Option Slice → ℕ → List Rule → Settings
-settings_by None slot rules = record { slot = slot; rate = 0; burst = 0; quota = 0; patterns = [] }
-settings_by (Some slice) slot rules = settings_of slice slot rules
+abbrev settings_by : Option Slice → ℕ → List Rule → List Swap → Settings
+settings_by None slot rules swaps = record { slot = slot; rate = 0; burst = 0; quota = 0; patterns = []; swaps = [] }
+settings_by (Some slice) slot rules swaps = settings_of slice slot rules swaps
 
-same_settings : (found : Option Slice) (p : PolicyView) (slot : ℕ) (told : Option Features) → slice_get p.slices slot ≡ found → settings_at p slot told ≡ settings_by found slot (rules_of p told)
+same_settings : (found : Option Slice) (p : PolicyView) (slot : ℕ) (told : Option Features) → slice_get p.slices slot ≡ found → settings_at p slot told ≡ settings_by found slot (rules_of p told) (swaps_of p told)
 same_settings None p slot told is = rw (is, settings_at) refl
 same_settings (Some slice) p slot told is = rw (is, settings_at) refl
 
-slot_by : (found : Option Slice) (slot : ℕ) (rules : List Rule) → (settings_by found slot rules).slot ≡ slot
-slot_by None slot rules = refl
-slot_by (Some slice) slot rules = refl
+slot_by : (found : Option Slice) (slot : ℕ) (rules : List Rule) (swaps : List Swap) → (settings_by found slot rules swaps).slot ≡ slot
+slot_by None slot rules swaps = refl
+slot_by (Some slice) slot rules swaps = refl
 
 pub settings_slot : (p : PolicyView) (slot : ℕ) (told : Option Features) → (settings_at p slot told).slot ≡ slot
-settings_slot p slot told = ap (λ (s : Settings). s.slot) (same_settings (slice_get p.slices slot) p slot told refl) ∙ slot_by (slice_get p.slices slot) slot (rules_of p told)
+settings_slot p slot told = ap (λ (s : Settings). s.slot) (same_settings (slice_get p.slices slot) p slot told refl) ∙ slot_by (slice_get p.slices slot) slot (rules_of p told) (swaps_of p told)
 
 pub settings_patterns : (p : PolicyView) (slot : ℕ) (told : Option Features) (slice : Slice) → slice_get p.slices slot ≡ Some slice → (settings_at p slot told).patterns ≡ writes_of (rules_of p told) slot
 settings_patterns p slot told slice there = ap (λ (s : Settings). s.patterns) (same_settings (Some slice) p slot told there)

@@ -14,6 +14,7 @@ use Rattle.slice_words.specs.Calls.{request_for, error_marks, reply_marks, reque
 use Rattle.slice_words.specs.Answers.{unread_answer, read_answer}
 use Rattle.slice_words.specs.Alone.{answer_to}
 use Rattle.slice_words.specs.Standing.{past_of}
+use Rattle.slice_words.proofs.ReadAlike.{read_ends}
 use Rattle.view_laws.specs.Requests.{is_request, requests_in, next_number}
 use Rattle.view_laws.proofs.Making.{Making}
 
@@ -41,7 +42,7 @@ while_up true a nothing = nothing
 while_up false a nothing = refl
 
 dismissing_puts_nothing : (s : Settings) (view : List Item) (message : List ℕ) (moment : ℕ) → is_dismissing message ≡ true → (answer_to s view (Msg message moment)).to_switch ≡ []
-dismissing_puts_nothing s view message moment ends_ = while_up (is_up view) _ (unread_puts_nothing s view (past_of s view) moment message (message_read s message) ends_)
+dismissing_puts_nothing s view message moment ends_ = while_up (is_up view) _ (unread_puts_nothing s view (past_of s view) moment message (message_read s message) (read_ends s message ∙ ends_))
 
 nothing_any : (sent : List Outgoing) → sent ≡ [] → is_any sent ≡ false
 nothing_any sent nothing = ap is_any nothing

@@ -1,7 +1,7 @@
 use Rattle.std.proofs.Common.{subst}
 use Rattle.slice_side.specs.declared.change.Change.{Change}
 use Rattle.slice_side.specs.Reactions.{IsChange}
-use Rattle.slice_side.proofs.Changing.{heard, set, rated, sent_out}
+use Rattle.slice_side.proofs.Changing.{heard, set, dismissed, rated, sent_out}
 use Rattle.slice_side.proofs.applying.apply.Goals as goal
 
 pub returns-in-Heard : goal.returns-in-Heard
@@ -11,6 +11,21 @@ returns-in-Heard c s sight item stands is =
 pub returns-in-Set : goal.returns-in-Set
 returns-in-Set c s sight item stands is =
     set s sight item c.in-Set.moment c.in-Set.miss_send_len c.max-state-in-Set.result c.args.state.now c.max-state-in-Set.ensures stands (subst (λ (k : Change). IsChange s sight item k) c.in-Set.is is)
+
+pub returns-in-Dismissed : goal.returns-in-Dismissed
+returns-in-Dismissed c s sight item stands is =
+    let forgot = c.forget.ensures in
+    dismissed s sight item c.in-Dismissed.moment c.max-state-in-Dismissed.result c.args.state.now c.forget.new.state c.max-state-in-Dismissed.ensures
+    (record {
+      requests = forgot.requests;
+      collections = forgot.collections;
+      length_is = forgot.miss_send_len;
+      same_bucket = forgot.bucket;
+      same_book = forgot.book;
+      same_moment = forgot.moment;
+      same_given = forgot.given;
+      none_held = forgot.held;
+    }) stands (subst (λ (k : Change). IsChange s sight item k) c.in-Dismissed.is is)
 
 pub returns-in-Rated : goal.returns-in-Rated
 returns-in-Rated c s sight item stands is =

@@ -10,7 +10,7 @@ pub returns-then-dispatch-clause-ok : goal.returns-then-dispatch-clause-ok
 returns-then-dispatch-clause-ok c moment p switch sides qs open_ numbered s = (
   closed_bad moment c.args.frame.now c.args.self.now p switch sides qs c.react_in.new.spare.dispatch open_ numbered s
       (λ p2 switch2 sides2 moment2 around stand numbered2. c.in_ok-react_in.ensures.dispatch p2 switch2 sides2 moment2 (subst (λ v. Surrounds p2 switch2 v c.args.self.now.ports) (sym c.policy-2.ensures) around) (subst (AllStand p2 switch2 sides2) (sym c.deref.ensures.value) stand) numbered2) c.if-dispatch.true,
-  record { told = s.told; slices = s.slices; rules = s.rules; known = s.known; states_count = s.states_count; queues_count = s.queues_count; each = s.each },
+  record { told = s.told; slices = s.slices; rules = s.rules; swaps = s.swaps; known = s.known; states_count = s.states_count; queues_count = s.queues_count; each = s.each },
   refl,
 )
 
