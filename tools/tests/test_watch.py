@@ -1,6 +1,7 @@
 """`flowvisor-tool watch`: what is known of switches and slices, of captures that are made here."""
 import contextlib
 import fcntl
+import gc
 import os
 import random
 import re
@@ -21,7 +22,8 @@ from watched import POLICY, START, SWITCH, Scene, Watched, policy_file
 from devices.messages import Kind, any_match, flow_mod, output, packet_out, port_match
 from devices.traffic import ACK, FIN, RST, SYN, Site, Wire, slice_flow_mod
 from flowvisor_tool.ends import end_of
-from flowvisor_tool.watching.following import MOST_LINKS
+from flowvisor_tool.watching.following import KEPT, MOST_LINKS
+from flowvisor_tool.watching.links import Link
 from flowvisor_tool.watching.matching import spelled_anew
 from flowvisor_tool.watching.parties import MOST_CODES
 from flowvisor_tool.watching.world import MOST_HAPPENINGS, MOST_SWITCHES, moment_text
@@ -496,6 +498,22 @@ class Hostile(unittest.TestCase):
         self.assertLessEqual(len(watched.watcher.follower.sides), 2 * MOST_LINKS)
         self.assertLessEqual(len(watched.watcher.world.switches), MOST_SWITCHES)
         self.assertLessEqual(len(watched.watcher.world.happenings), MOST_HAPPENINGS)
+
+    def test_connections_that_are_over_are_freed_without_a_collection(self):
+        scene = Scene()
+        for _time in range(100):
+            scene.site.lose_controller(SWITCH, ALICE)
+            scene.site.connect_controller(SWITCH, ALICE)
+            scene.wait(KEPT)
+        gc.collect()
+        gc.disable()
+        try:
+            watched = scene.watched()
+            self.assertEqual(watched.slice("alice")["connections"], 101)
+            links = [one for one in gc.get_objects() if isinstance(one, Link)]
+        finally:
+            gc.enable()
+        self.assertLessEqual(len(links), len(watched.watcher.follower.links))
 
     def test_clocks_that_are_set(self):
         scene = Scene()

@@ -230,6 +230,7 @@ class Follower:
             self.sides.pop(key, None)
         self.passed_missing += link.peer.messages.missing + link.proxy.messages.missing
         self.passed_unread += link.peer.messages.unread + link.proxy.messages.unread
+        link.release()
 
     def tick(self, time):
         """Gives up gaps that have been there for too long, and forgets connections that have ended long ago."""

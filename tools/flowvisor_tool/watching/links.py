@@ -126,3 +126,8 @@ class Link:
     def last(self):
         """When it last had bytes, or ended."""
         return max(self.since, self.peer.last, self.proxy.last)
+
+    def release(self):
+        """Frees its memory at once: its sides and their messages name each other, and such cycles are collected late."""
+        for side in (self.peer, self.proxy):
+            side.messages = side.link = None
