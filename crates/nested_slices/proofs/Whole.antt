@@ -7,6 +7,7 @@ use Rattle.std.proofs.lemmas.List.Elements.{All-nil, All-cons, All-head, All-tai
 use Rattle.std.proofs.lemmas.List.Sorted.{All-permutation}
 use Rattle.flowmod_expand.proofs.Somewhere.{All-filter_map}
 use Rattle.flowspace.specs.declared.fault.Field.TheVariants.{Read}
+use Rattle.flowspace.specs.declared.fault.What.TheVariants.{Slices, Rules, Writes}
 use Rattle.flowspace.specs.declared.fault.PolicyFault.{PolicyFault}
 use Rattle.flowspace.specs.declared.fault.PolicyFault.TheVariants.{TooMany, DuplicateSlice, UnknownSlice, Improper, Overlap}
 use Rattle.flowspace.specs.declared.slices.Slice.{Slice}
@@ -143,7 +144,9 @@ no_overlap rs i j yield descend o =
     o.not_written (both o.share o.slot o.written)
 
 few_faults : (ss : List Slice) (rs : List Rule) (fault : PolicyFault) → All (IsSoundRule (length ss)) rs → AllPairs Yields rs → AllPairs HasNoLower rs → IsFirstPolicyFault ss rs fault → IsFlatFault fault
-few_faults ss rs (TooMany what count) sound yield descend first = tt
+few_faults ss rs (TooMany Slices count) sound yield descend first = tt
+few_faults ss rs (TooMany Rules count) sound yield descend first = tt
+few_faults ss rs (TooMany Writes count) sound yield descend first = tt
 few_faults ss rs (DuplicateSlice place) sound yield descend first = tt
 few_faults ss rs (UnknownSlice place) sound yield descend first = absurd (first.2.unknown (All-slice_get (IsSoundRule (length ss)) rs place first.2.rule sound first.2.is_there).0)
 few_faults ss rs (Improper place Read) sound yield descend first = absurd (true≢false (sym first.2.own ∙ (All-slice_get (IsSoundRule (length ss)) rs place first.2.rule sound first.2.is_there).1))

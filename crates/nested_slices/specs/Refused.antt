@@ -1,6 +1,7 @@
 -- Which divisions are refused, and what the others make. All of this is the proxy's own rule.
 use Rattle.std.specs.Prelude.{ℕ, ◌≡◌, ◌≤◌, ◌⊎◌, ◌||◌, nat_lt, is_none, Bool, List, [], ◌∷◌, length, sum_by, position, slice_get, Option, Some, None, option_map, option_and_then, Result, Ok, Err}
 use Rattle.of10_model.specs.Results.{Answers}
+use Rattle.flowspace.specs.declared.fault.What.TheVariants.{Slices, Rules, Writes}
 use Rattle.flowspace.specs.declared.fault.PolicyFault.{PolicyFault}
 use Rattle.flowspace.specs.declared.fault.PolicyFault.TheVariants.{TooMany, DuplicateSlice, Memory as OutOfMemory}
 use Rattle.flowspace.specs.declared.slices.Slice.{Slice}
@@ -72,7 +73,9 @@ GivesFlat called said = Answers (λ fault told. (fault ≡ Memory) ⊎ (told ≡
 -- a flat policy is refused for its number of slices or of rules, for what one slice writes, or for a name twice, and for nothing else
 abbrev pub IsFlatFault : PolicyFault → Type 0
 IsFlatFault (DuplicateSlice place) = Unit {0}
-IsFlatFault (TooMany what count) = Unit {0}
+IsFlatFault (TooMany Slices count) = Unit {0}
+IsFlatFault (TooMany Rules count) = Unit {0}
+IsFlatFault (TooMany Writes count) = Unit {0}
 IsFlatFault other = ⊥
 
 abbrev pub IsNestFault : NestFault → Type 0
