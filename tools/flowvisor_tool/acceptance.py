@@ -1,13 +1,13 @@
-"""What keeps well-formed slices and rules from being a policy: their numbers, names that stand twice, and overlaps."""
+"""What keeps well-formed tables from being a policy: their number, what is named twice, and overlaps."""
 import collections
 
 from .fields import packet_text
 from .policy import Finding, packet_in_both, refused_pairs, rules_in_order
 
-MOST_SLICES, MOST_RULES, MOST_WRITE_RULES = 32, 2048, 256
+MOST_SLICES, MOST_RULES, MOST_WRITE_RULES, MOST_PORTS = 32, 2048, 256, 1024
 
 
-def acceptance_faults(slices, rules):
+def acceptance_faults(slices, rules, swaps=()):
     """All faults of these, in which names and patterns that have a fault of their own may be missing."""
     yield from duplicate_names(slices)
     yield from too_many(slices, MOST_SLICES, "slices")
@@ -16,6 +16,8 @@ def acceptance_faults(slices, rules):
     yield from too_many_write_rules(rules, names)
     if len(rules) <= MOST_RULES:
         yield from overlaps(rules, names)
+    yield from too_many(swaps, MOST_PORTS, "ports")
+    yield from ports_twice(swaps)
 
 
 def duplicate_names(slices):
@@ -52,6 +54,19 @@ def overlaps(rules, names):
         where = f" on switch {switch:016x}" if switch is not None else ""
         told = f"{later}, {owner(later)}, overlaps {earlier}, {owner(earlier)}: {packet}{where} is in both"
         yield Finding(later.position, told)
+
+
+def ports_twice(swaps):
+    """Numbers that an earlier table of the slice names on a common switch, each told with the first such table."""
+    by_slice = collections.defaultdict(list)
+    for swap in swaps:
+        for earlier in by_slice[swap.slice_name]:
+            both = earlier.numbers & swap.numbers
+            if both and swap.slice_name is not None and earlier.shares_a_switch(swap):
+                told = f"{swap} names {min(both)} for {swap.slice_name}, but {earlier} names it too, on a common switch"
+                yield Finding(swap.position, told)
+                break
+        by_slice[swap.slice_name].append(swap)
 
 
 def owner(rule):

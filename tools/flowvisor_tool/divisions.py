@@ -85,10 +85,19 @@ class Division:
 
     def faults(self):
         """All that a division is refused for, each with its place in the inner policy."""
+        yield from self.ports()
         yield from self.unwritten()
         yield from self.shares()
         yield from self.names()
         yield from self.limits()
+
+    def ports(self):
+        """Port numbers of slices' own, which neither policy may have."""
+        told = "has tables [[port]], but a slice can be divided only where no port numbers are exchanged"
+        if self.outer.policy.swaps:
+            yield Finding(Position(1, 1), f"{self.outer.path} {told}")
+        if self.inner.policy.swaps:
+            yield Finding(self.inner.policy.swaps[0].position, f"{self.inner.path} {told}")
 
     def unwritten(self):
         for rule in self.inner.policy.rules:

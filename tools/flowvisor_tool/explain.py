@@ -61,7 +61,7 @@ def told(policy, text, switch):
 
 def switches_of(policy, switch):
     """The switches to tell of, each with what its lines begin with: the one that is asked for, or all that differ."""
-    named = sorted({rule.pattern.switch for rule in policy.rules if rule.pattern.switch is not None})
+    named = sorted({one.switch for one in (*(rule.pattern for rule in policy.rules), *policy.swaps)} - {None})
     if switch is not None or not named:
         return [(switch, "")]
     return [(one, f"switch {one:016x}: ") for one in named] + [(None, "any other switch: ")]
@@ -78,10 +78,20 @@ def explanation(policy, packets, switch):
     yield from rule.told_origin()
     yield f"written by {rule.writer or 'nobody'}"
     yield f"read by {', '.join(rule.readers) or 'nobody else'}"
+    yield from shown_ports(policy, rule, packets, switch)
     yield from deciding_fields(rule, packets)
     if not rule.texts:
         before = policy.in_order[: policy.in_order.index(rule)]
         yield from nearest_miss(before, packets, switch, "nearest before it")
+
+
+def shown_ports(policy, rule, packets, switch):
+    """The slices that are shown the packets' port under another number."""
+    number, mask = packets.pattern.constraints.get("in_port", (0, 0))
+    for name in (rule.writer, *rule.readers) if mask else ():
+        shown = policy.shown_port(name, switch, number)
+        if shown != number:
+            yield f"{name} is shown port {number} as {shown}"
 
 
 def deciding_fields(rule, packets):

@@ -11,7 +11,8 @@ SUMMARY = "tell all that is wrong with a policy"
 EPILOG = """\
 A fault is what flowvisor check refuses the policy for; it tells the first one alone. A warning is what it accepts, but
 hardly was meant: a rule that never applies, bits of an address that don't count, a reader of some overlapping rules of
-a slice alone, a controller that can never be dialled, two slices with one controller. The status is 1 where there is a
+a slice alone, a controller that can never be dialled, two slices with one controller, a port table that exchanges
+nothing. The status is 1 where there is a
 fault, and with --strict where there is a warning too. With --under what flowvisor flatten refuses is a fault too, and a
 rule that shares no packet with those of NAME is warned of.
 """
@@ -70,8 +71,15 @@ def warnings_of(reading):
     never = {later.index for _earlier, later in hidden}
     return [
         *hidden_rules(hidden), *partial_readers([rule for rule in rules if rule.index not in never]), *disregarded_bits(reading),
-        *controller_warnings(reading.policy.slices),
+        *controller_warnings(reading.policy.slices), *idle_swaps(reading.policy.swaps),
     ]
+
+
+def idle_swaps(swaps):
+    """Port tables that exchange a number with itself."""
+    for swap in swaps:
+        if swap.shown is not None and swap.shown == swap.physical:
+            yield Finding(swap.position, f"{swap} exchanges nothing: shown and physical are both {swap.shown}")
 
 
 def hidden_rules(pairs):

@@ -122,6 +122,35 @@ class Rule:
         return ()
 
 
+@dataclass(frozen=True)
+class Swap:
+    """A port table: for a slice, named or of no known name, two port numbers stand for one another.
+
+    One of which something isn't well formed has no number under `shown` or `physical`.
+    """
+
+    index: int
+    position: Position
+    slice_name: str | None
+    switch: int | None
+    shown: int | None
+    physical: int | None
+
+    def __str__(self):
+        return f"port {self.index} (line {self.position.line})"
+
+    @property
+    def numbers(self):
+        return {self.shown, self.physical} - {None}
+
+    def holds_on(self, switch):
+        """Whether it counts on a switch; None is one that no table names."""
+        return self.switch is None or self.switch == switch
+
+    def shares_a_switch(self, other):
+        return None in (self.switch, other.switch) or self.switch == other.switch
+
+
 def rules_in_order(rules):
     """Rules by falling priority, and those of one priority as in the file."""
     return sorted(rules, key=lambda rule: -rule.priority)
@@ -129,15 +158,23 @@ def rules_in_order(rules):
 
 @dataclass(frozen=True)
 class Policy:
-    """The slices and the rules, in the order of the file."""
+    """The slices, the rules and the port tables, in the order of the file."""
 
     slices: tuple[Slice, ...]
     rules: tuple[Rule, ...]
+    swaps: tuple[Swap, ...] = ()
 
     @functools.cached_property
     def in_order(self):
         """The rules in the order in which they are asked."""
         return rules_in_order(self.rules)
+
+    def shown_port(self, name, switch, number):
+        """The number under which a slice is shown a port of a switch."""
+        for swap in self.swaps:
+            if swap.slice_name == name and swap.holds_on(switch) and number in swap.numbers:
+                return swap.shown if number == swap.physical else swap.physical
+        return number
 
     def first(self, header, switch):
         """The rule that governs a packet on a switch, or None; a switch of None is one that no rule names."""

@@ -73,6 +73,9 @@ def read_network(content):
 HARDWARE_ADDRESS = Form('six pairs of hex digits in lower case, as "00:11:22:33:44:55"', read_hardware)
 NETWORK_ADDRESS = Form('an address as "10.1.0.7", or with a length from 1 to 32 as "10.1.0.0/16"', read_network)
 
+SWITCH_ID = text('16 hex digits in lower case, as "00000000000000a1"', SWITCH)
+SLICE_NAME = text("the name of a slice, a text", re.compile(".*", re.DOTALL))
+
 SLICE_FORMS = {
     "name": text("a text of 1 to 32 of a to z, 0 to 9, _ and -", NAME),
     "controller": Form("a text of 1 to 255 bytes", read_controller),
@@ -81,9 +84,9 @@ SLICE_FORMS = {
     "quota": number(0, 4096),
 }
 RULE_FORMS = {
-    "switch": text('16 hex digits in lower case, as "00000000000000a1"', SWITCH),
+    "switch": SWITCH_ID,
     "priority": number(0, (1 << 32) - 1),
-    "write": text("the name of a slice, a text", re.compile(".*", re.DOTALL)),
+    "write": SLICE_NAME,
     "read": Form('an array of names, as ["bob"]', read_names),
     "in_port": number(0, LARGEST_PHYSICAL_PORT, also=Port.LOCAL.value),
     "dl_src": HARDWARE_ADDRESS,
@@ -98,8 +101,20 @@ RULE_FORMS = {
     "tp_src": number(0, 65535),
     "tp_dst": number(0, 65535),
 }
+PORT_FORMS = {
+    "slice": SLICE_NAME,
+    "switch": SWITCH_ID,
+    "shown": number(0, LARGEST_PHYSICAL_PORT),
+    "physical": number(0, LARGEST_PHYSICAL_PORT),
+}
 SLICE_REQUIRED, RULE_REQUIRED = ("name", "controller"), ("priority",)
-TOP_KEYS = ("version", "slice", "rule")
+PORT_REQUIRED = ("slice", "shown", "physical")
+HIGHEST_VERSION = 1  # that `flowvisor check` accepts
+
+
+def top_keys(version):
+    """The keys of a whole policy of a version."""
+    return ("version", "slice", "rule", "port") if version == 2 else ("version", "slice", "rule")
 
 
 def constraint(name, value):

@@ -10,8 +10,11 @@ from .acceptance import MOST_SLICES, acceptance_faults
 from .faults import Fault
 from .fields import BITS, NEEDS
 from .files import named
-from .policy import Finding, Pattern, Policy, Rule, Slice
-from .policy_forms import RULE_FORMS, RULE_REQUIRED, SLICE_FORMS, SLICE_REQUIRED, TOP_KEYS, constraint, read_names
+from .policy import Finding, Pattern, Policy, Rule, Slice, Swap
+from .policy_forms import (
+    HIGHEST_VERSION, PORT_FORMS, PORT_REQUIRED, RULE_FORMS, RULE_REQUIRED, SLICE_FORMS, SLICE_REQUIRED, constraint, number,
+    read_names, top_keys,
+)
 from .toml_reader import Document, Position, read_document
 
 LARGEST_FILE = 1 << 20
@@ -42,8 +45,8 @@ def text_under(table, key):
 class PolicyReader:
     """Reads the tables of a document, and notes what is wrong with them."""
 
-    def __init__(self, document):
-        self.document = document
+    def __init__(self, document, highest=HIGHEST_VERSION):
+        self.document, self.highest = document, highest
         self.faults = [self.finding(fault.offset, f"not TOML: {fault.text}") for fault in document.faults]
         # Texts under `name` that aren't the name of a slice for a fault of their own: a rule may name one.
         self.improper_names = {name for table in document.stray if (name := text_under(table, "name")) is not None}
@@ -57,28 +60,43 @@ class PolicyReader:
     def read(self):
         """The policy, with its faults."""
         top = self.document.root
-        self.top_keys(top)
+        version = self.version(top)
+        self.top_keys(top, version)
         slice_tables, rule_tables = self.tables(top, "slice"), self.tables(top, "rule")
+        port_tables = self.tables(top, "port") if "port" in top_keys(version) else None
         if slice_tables == []:
             self.fault(top.content["slice"].start, "slice is empty, but there must be at least one slice")
         slices = tuple(self.slice(slot, table) for slot, table in enumerate(slice_tables or ()))
         rules = [self.rule(index, table) for index, table in enumerate(rule_tables or ())]
-        policy = Policy(slices, tuple(rule for rule in rules if rule.pattern is not None))
+        swaps = tuple(self.swap(index, table) for index, table in enumerate(port_tables or ()))
+        policy = Policy(slices, tuple(rule for rule in rules if rule.pattern is not None), swaps)
         if slice_tables is not None:
-            self.names(slices, rule_tables or ())
-        self.faults += acceptance_faults(slices, rules)
+            self.names(slices, rule_tables or (), port_tables or ())
+        self.faults += acceptance_faults(slices, rules, swaps)
         return PolicyReading(self.document, policy, sorted(self.faults))
 
-    def top_keys(self, top):
-        """The version, and keys that a policy doesn't have."""
-        version = top.content.get("version")
-        if version is None and not self.document.faults:
-            self.fault(0, "version is missing: a policy has the line version = 1")
-        elif version is not None and version.content != 1:
-            self.fault(version.start, f"version is {self.document.source(version)}, but must be 1")
+    def version(self, top):
+        """The version; the highest where it is missing or none."""
+        node = top.content.get("version")
+        if node is None:
+            if not self.document.faults:
+                self.fault(0, "version is missing: a policy has the line version = 1")
+            return self.highest
+        version = number(1, self.highest).read(node.content)
+        if version is None:
+            versions = " or ".join(map(str, range(1, self.highest + 1)))
+            self.fault(node.start, f"version is {self.document.source(node)}, but must be {versions}")
+        return version or self.highest
+
+    def top_keys(self, top, version):
+        """Tables that must be there, and keys that a policy of the version doesn't have."""
         if "slice" not in top.content and not self.document.faults:
             self.fault(0, "slice is missing: a policy has at least one table [[slice]]")
-        self.unknown_keys(top, TOP_KEYS, "a policy")
+        known = top_keys(version)
+        if "port" in top.content and "port" in top_keys(self.highest) and "port" not in known:
+            self.fault(top.content["port"].key_start, "a policy has no key port; with version = 2 it may have")
+            known += ("port",)
+        self.unknown_keys(top, known, "a policy")
 
     def unknown_keys(self, table, known, owner):
         for key, node in table.content.items():
@@ -152,6 +170,14 @@ class PolicyReader:
             {name: self.document.source(table.content[name]) for name in given},
         )
 
+    def swap(self, index, table):
+        """A port table; the names of slices are looked up later."""
+        values = self.values(table, PORT_FORMS, PORT_REQUIRED, f"port {index}")
+        is_sound = values.keys() >= {*PORT_REQUIRED} and ("switch" in values or "switch" not in table.content)
+        switch = int(values["switch"], 16) if "switch" in values else None
+        shown, physical = (values["shown"], values["physical"]) if is_sound else (None, None)
+        return Swap(index, self.document.position(table.start), values.get("slice"), switch, shown, physical)
+
     def has_needs(self, index, table, values):
         """Whether each field has what it needs beside it; one that needs a field that has a fault isn't told of."""
         has_all = True
@@ -170,8 +196,8 @@ class PolicyReader:
                 break
         return has_all
 
-    def names(self, slices, rule_tables):
-        """The names under `write` and `read`."""
+    def names(self, slices, rule_tables, port_tables):
+        """The names under `write` and `read`, and under `slice` in a port table."""
         known = {one.name for one in slices} - {None}
         hints = tuple(sorted(known))[:MOST_SLICES]
         for index, table in enumerate(rule_tables):
@@ -179,9 +205,15 @@ class PolicyReader:
             readers = read.content if read and read_names(read.content) is not None else []
             self.repeated_names(index, writer, readers)
             for node in [writer, *readers] if writer else readers:
-                if isinstance(node.content, str) and node.content not in known and node.content not in self.improper_names:
-                    told = f"rule {index}: {self.document.source(node)} is no slice's name{alike(node.content, hints)}"
-                    self.fault(node.start, told)
+                self.known_name(f"rule {index}", node, known, hints)
+        for index, table in enumerate(port_tables):
+            if "slice" in table.content:
+                self.known_name(f"port {index}", table.content["slice"], known, hints)
+
+    def known_name(self, owner, node, known, hints):
+        """A name that must be a slice's."""
+        if isinstance(node.content, str) and node.content not in known and node.content not in self.improper_names:
+            self.fault(node.start, f"{owner}: {self.document.source(node)} is no slice's name{alike(node.content, hints)}")
 
     def repeated_names(self, index, writer, readers):
         """Readers that stand twice, or under `write` too."""
@@ -200,8 +232,8 @@ def faulty(told, position=Position(1, 1)):
     return PolicyReading(read_document(""), Policy((), ()), [Finding(position, told)])
 
 
-def read_policy(data):
-    """The policy that a file's bytes are, with all faults."""
+def read_policy(data, highest=HIGHEST_VERSION):
+    """The policy that a file's bytes are, of a version up to the highest, with all faults."""
     if len(data) > LARGEST_FILE:
         return faulty(f"the file has {len(data)} bytes, but may have at most {LARGEST_FILE}")
     try:
@@ -211,7 +243,7 @@ def read_policy(data):
         line_start = before.rfind("\n") + 1
         position = Position(before.count("\n") + 1, len(before) - line_start + 1)
         return faulty("not TOML: a byte that isn't UTF-8", position)
-    return PolicyReader(read_document(source)).read()
+    return PolicyReader(read_document(source), highest).read()
 
 
 def read_policy_file(path):

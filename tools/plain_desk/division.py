@@ -63,7 +63,10 @@ def parts(outer, holder, inner):
 
 
 def refuse_division(outer, holder, inner):
-    """Tells of an inner rule that nobody writes, by its place in the file, else of what is more than the holder's."""
+    """Tells of port numbers that are exchanged, else of an inner rule that nobody writes, by its place in the file, else
+    of what is more than the holder's."""
+    if outer.swaps or inner.swaps:
+        raise DivisionRefused("ports")
     for rule in inner.rules:
         if rule.writer is None:
             raise DivisionRefused(f"rule {rule.place} has no writer")

@@ -1,4 +1,4 @@
-"""Slices and rules, as the proxy asks them (this proxy's own rule)."""
+"""Slices, rules and swaps of port numbers, as the proxy asks them (this proxy's own rule)."""
 import functools
 from dataclasses import dataclass
 
@@ -37,6 +37,21 @@ class Rule:
         return None in (self.switch, other.switch) or self.switch == other.switch
 
 
+@dataclass(frozen=True)
+class Swap:
+    """Two port numbers that stand for one another for the slice at a slot: the shown one, and the physical one."""
+
+    slot: int
+    switch: int | None
+    shown: int
+    physical: int
+
+    def shares_a_number(self, other):
+        """Whether it names a number that another swap of the slice names on a common switch."""
+        is_beside = self.slot == other.slot and (None in (self.switch, other.switch) or self.switch == other.switch)
+        return is_beside and bool({self.shown, self.physical} & {other.shown, other.physical})
+
+
 def in_order(rules):
     """Rules by descending priority, and those of one priority as in the file."""
     return tuple(sorted(rules, key=lambda rule: (-rule.priority, rule.place)))
@@ -44,10 +59,11 @@ def in_order(rules):
 
 @dataclass(frozen=True)
 class Policy:
-    """The slices by slot, and the rules in the order of the file."""
+    """The slices by slot, and the rules and the swaps in the order of the file."""
 
     slices: tuple[Slice, ...]
     rules: tuple[Rule, ...]
+    swaps: tuple[Swap, ...] = ()
 
     def on_switch(self, datapath):
         """The rules that hold on a switch, in their order."""

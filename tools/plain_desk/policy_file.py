@@ -2,17 +2,17 @@
 
 The forms of values, and TOML, are read by flowvisor-tool's modules; which fault comes first is this proxy's own rule.
 """
-from flowvisor_tool.acceptance import MOST_RULES, MOST_SLICES, MOST_WRITE_RULES
+from flowvisor_tool.acceptance import MOST_PORTS, MOST_RULES, MOST_SLICES, MOST_WRITE_RULES
 from flowvisor_tool.fields import BITS, NEEDS
 from flowvisor_tool.policy_forms import (
-    RULE_FORMS, RULE_REQUIRED, SLICE_FORMS, SLICE_REQUIRED, TOP_KEYS, constraint,
+    HIGHEST_VERSION, PORT_FORMS, PORT_REQUIRED, RULE_FORMS, RULE_REQUIRED, SLICE_FORMS, SLICE_REQUIRED, constraint, number,
+    top_keys,
 )
 from flowvisor_tool.toml_reader import read_document
 
 from .matches import Match
-from .policy import Policy, Rule, Slice, in_order
+from .policy import Policy, Rule, Slice, Swap, in_order
 
-VERSION = 1
 DEFAULTS = {"rate": 1000, "burst": 1000, "quota": 1024}
 
 
@@ -20,19 +20,20 @@ class PolicyRefused(Exception):
     """A policy that isn't one: its text says why."""
 
 
-def read_policy(data):
-    """The policy that a file's bytes are."""
-    top = read_top(data)
-    slice_tables, rule_tables = tables_of(top)
+def read_policy(data, highest=HIGHEST_VERSION):
+    """The policy that a file's bytes are, of a version up to the highest."""
+    top = read_top(data, highest)
+    slice_tables, rule_tables, port_tables = tables_of(top)
     slices = [read_slice(slot, table) for slot, table in enumerate(slice_tables)]
     names = [one.name for one in slices]
     rules = [read_rule(place, table, names) for place, table in enumerate(rule_tables)]
-    policy = Policy(tuple(slices), tuple(rules))
+    swaps = [read_swap(place, table, names) for place, table in enumerate(port_tables)]
+    policy = Policy(tuple(slices), tuple(rules), tuple(swaps))
     refuse_unaccepted(policy)
     return policy
 
 
-def read_top(data):
+def read_top(data, highest):
     """The top table, with its version right and no key that it can't have."""
     try:
         document = read_document(data.decode())
@@ -43,9 +44,10 @@ def read_top(data):
     top = document.root.content
     if "version" not in top:
         raise PolicyRefused("missing version")
-    if top["version"].content != VERSION:
+    version = number(1, highest).read(top["version"].content)
+    if version is None:
         raise PolicyRefused("bad value version")
-    refuse_unknown_keys(top, TOP_KEYS, "")
+    refuse_unknown_keys(top, top_keys(version), "")
     return top
 
 
@@ -62,16 +64,20 @@ def is_tables(node):
 
 
 def tables_of(top):
-    """The tables of the slices, of which there is one at least, and those of the rules."""
+    """The tables of the slices, of which there is one at least, those of the rules, and the port tables."""
     if "slice" not in top:
         raise PolicyRefused("missing slice")
     if not is_tables(top["slice"]) or not top["slice"].content:
         raise PolicyRefused("bad value slice")
-    if "rule" not in top:
-        return top["slice"].content, []
-    if not is_tables(top["rule"]):
-        raise PolicyRefused("bad value rule")
-    return top["slice"].content, top["rule"].content
+    return top["slice"].content, *(optional_tables(top, key) for key in ("rule", "port"))
+
+
+def optional_tables(top, key):
+    if key not in top:
+        return []
+    if not is_tables(top[key]):
+        raise PolicyRefused(f"bad value {key}")
+    return top[key].content
 
 
 def values_of(table, forms, required, place):
@@ -109,6 +115,14 @@ def read_rule(place, table, names):
     return Rule(place, switch, values["priority"], Match.of(constraints), writer, slots)
 
 
+def read_swap(place, table, names):
+    values = values_of(table, PORT_FORMS, PORT_REQUIRED, f"port.{place}.")
+    if values["slice"] not in names:
+        raise PolicyRefused(f"port {place} names no slice")
+    switch = int(values["switch"], 16) if "switch" in values else None
+    return Swap(names.index(values["slice"]), switch, values["shown"], values["physical"])
+
+
 def refuse_unmet_needs(place, values):
     """Tells of the first field that lacks what it needs beside it."""
     for name in BITS:
@@ -117,7 +131,7 @@ def refuse_unmet_needs(place, values):
 
 
 def refuse_unaccepted(policy):
-    """Tells what keeps well-formed slices and rules from being a policy."""
+    """Tells what keeps well-formed slices, rules and swaps from being a policy."""
     slices, rules = policy.slices, policy.rules
     if len(slices) > MOST_SLICES:
         raise PolicyRefused(f"too many slices {len(slices)}")
@@ -135,6 +149,15 @@ def refuse_unaccepted(policy):
         if count > MOST_WRITE_RULES:
             raise PolicyRefused(f"too many write rules {count}")
     refuse_overlaps(in_order(rules))
+    refuse_swaps(policy.swaps)
+
+
+def refuse_swaps(swaps):
+    if len(swaps) > MOST_PORTS:
+        raise PolicyRefused(f"too many ports {len(swaps)}")
+    for place, swap in enumerate(swaps):
+        if any(swap.shares_a_number(earlier) for earlier in swaps[:place]):
+            raise PolicyRefused(f"port {place} is named twice")
 
 
 def refuse_overlaps(rules):

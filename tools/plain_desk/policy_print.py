@@ -5,13 +5,15 @@ from .policy_file import DEFAULTS
 
 
 def policy_lines(policy):
-    """The lines: the version, the slices and the rules, each under its header."""
-    yield "version = 1"
+    """The lines: the version, the slices, the rules and the port tables, each under its header."""
+    yield f"version = {2 if policy.swaps else 1}"
     for one in policy.slices:
         yield from ("", "[[slice]]", f"name = {spelled_text(one.name)}", f"controller = {spelled_text(one.controller)}")
         yield from (f"{key} = {getattr(one, key)}" for key, default in DEFAULTS.items() if getattr(one, key) != default)
     for rule in policy.rules:
         yield from ("", "[[rule]]", *rule_lines(rule, [one.name for one in policy.slices]))
+    for swap in policy.swaps:
+        yield from ("", "[[port]]", *port_lines(swap, policy.slices[swap.slot].name))
 
 
 def rule_lines(rule, names):
@@ -26,6 +28,13 @@ def rule_lines(rule, names):
         value, mask = rule.match.constraint(name)
         if mask:
             yield f"{name} = {spelled_value(name, value, mask)}"
+
+
+def port_lines(swap, name):
+    yield f"slice = {spelled_text(name)}"
+    if swap.switch is not None:
+        yield f'switch = "{swap.switch:016x}"'
+    yield from (f"shown = {swap.shown}", f"physical = {swap.physical}")
 
 
 def spelled_value(name, value, mask):

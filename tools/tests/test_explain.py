@@ -245,6 +245,41 @@ class Packets(unittest.TestCase):
         self.assertIsNone(probe_slot(frame.replace(b"\x88\xcc", b"\x88\xcd")))
 
 
+class ShownPorts(unittest.TestCase):
+    """The number under which a slice is shown a packet's port."""
+
+    def test_writer_and_readers(self):
+        text = """version = 2
+[[slice]]
+name = "alice"
+controller = "c:1"
+[[slice]]
+name = "bob"
+controller = "c:2"
+[[rule]]
+priority = 1
+write = "alice"
+read = ["bob"]
+[[port]]
+slice = "alice"
+shown = 9
+physical = 2
+[[port]]
+slice = "bob"
+switch = "00000000000000a1"
+shown = 1
+physical = 2
+"""
+        reading = read_policy(text.encode(), 2)
+        self.assertEqual(reading.faults, [])
+        alice, bob = "alice is shown port 2 as 9", "bob is shown port 2 as 1"
+        lines = list(told(reading.policy, "in_port=2", None))
+        shown = [line for line in lines if "is shown" in line]
+        self.assertEqual(shown, [f"switch 00000000000000a1: {alice}", f"switch 00000000000000a1: {bob}", f"any other switch: {alice}"])
+        self.assertIn("alice is shown port 9 as 2", list(told(reading.policy, "in_port=9", 7)))
+        self.assertFalse([line for line in told(reading.policy, "in_port=3", None) if "is shown" in line])
+
+
 class Command(unittest.TestCase):
     def explain(self, *words):
         return run_tool("explain", *words)

@@ -24,18 +24,20 @@ TOP = 'version = 1\n[[slice]]\nname = "alice"\ncontroller = "c:1"\n[[slice]]\nna
 SAME_FAULTS = (
     (r"not TOML", r"not TOML"),
     (r"missing (version|slice)", r"{0} is missing"),
-    (r"missing (slice|rule)\.(\d+)\.(\w+)", r"{0} {1} has no {2}: it is"),
+    (r"missing (slice|rule|port)\.(\d+)\.(\w+)", r"{0} {1} has no {2}: it is"),
     (r"bad value version", r"version is .*, but must be 1"),
-    (r"bad value (slice|rule)", r"{0} must be tables|{0} is empty"),
-    (r"bad value (slice|rule)\.(\d+)\.(\w+)", r"{0} {1}: {2} is .*, but must be"),
-    (r"unknown key (slice|rule)\.(\d+)\.(.*)", r"{0} {1} has no key {2}"),
+    (r"bad value (slice|rule|port)", r"{0} must be tables|{0} is empty"),
+    (r"bad value (slice|rule|port)\.(\d+)\.(\w+)", r"{0} {1}: {2} is .*, but must be"),
+    (r"unknown key (slice|rule|port)\.(\d+)\.(.*)", r"{0} {1} has no key {2}"),
     (r"unknown key (.*)", r"a policy has no key {0}"),
     (r"rule (\d+) improper read", r"rule {0}: .* stands (twice under read|under write too)"),
     (r"rule (\d+) improper (\w+)", r"rule {0}: {1} needs .* beside it"),
     (r"rule (\d+) names no slice", r"rule {0}: .* is no slice's name"),
     (r"rules (\d+) and (\d+) overlap", r"rule {1} .*, overlaps rule {0} .*: .* is in both"),
     (r"slice (\d+) is a duplicate", r"slice {0}: the name .* is that of slice"),
-    (r"too many (slices|rules) (\d+)", r"there are {1} {0}, but at most"),
+    (r"port (\d+) names no slice", r"port {0}: .* is no slice's name"),
+    (r"port (\d+) is named twice", r"port {0} .* names .* names it too, on a common switch"),
+    (r"too many (slices|rules|ports) (\d+)", r"there are {1} {0}, but at most"),
     (r"too many write rules (\d+)", r"stands under write in {0} rules, but"),
 )
 
@@ -54,6 +56,16 @@ def told(text):
     reading = read_policy(text.encode())
     findings = [*reading.faults, *lint.warnings_of(reading)]
     return [f"{found.position.line}:{found.position.column} {found.text}" for found in sorted(findings)]
+
+
+def told_of_ports(text):
+    """What is told of a policy of version 2, as it will be accepted."""
+    return [f"{found.position.line}:{found.position.column} {found.text}" for found in read_policy(text.encode(), 2).faults]
+
+
+def port_table(name, shown, physical, switch=""):
+    """A port table, perhaps with the line of its switch."""
+    return f'[[port]]\nslice = "{name}"\n{switch}shown = {shown}\nphysical = {physical}\n'
 
 
 def is_accepted(data):
@@ -108,6 +120,44 @@ class Agreement(unittest.TestCase):
     def test_other_bytes(self):
         for data in (b"", b"\xff", TOP.encode() + b"# \xc3\x28", TOP.encode("utf-16"), b"\xef\xbb\xbf" + TOP.encode()):
             self.check(data)
+
+
+class PortTables(unittest.TestCase):
+    """What is told of policies of version 2."""
+
+    top = TOP.replace("version = 1", "version = 2")
+
+    def assert_told(self, text, *wanted):
+        self.assertEqual(told_of_ports(text), list(wanted))
+
+    def test_all_at_once(self):
+        self.assert_told(
+            self.top + port_table("alcie", 9, 65281) + '[[port]]\nslcie = "bob"\nshown = 1\nphysical = 2\n',
+            '9:9 port 0: "alcie" is no slice\'s name; is alice meant?',
+            "11:12 port 0: physical is 65281, but must be a number from 0 to 65280",
+            "12:1 port 1 has no slice: it is the name of a slice, a text",
+            "13:1 port 1 has no key slcie; is slice meant?",
+        )
+
+    def test_a_number_twice(self):
+        switches = [f'switch = "00000000000000a{number}"\n' for number in range(2)]
+        accepted = [port_table("alice", 9, 2, switches[0]), port_table("alice", 2, 5, switches[1]), port_table("bob", 9, 2)]
+        self.assert_told(self.top + "".join(accepted))
+        self.assert_told(
+            self.top + "".join(accepted) + port_table("alice", 5, 7),
+            "22:1 port 3 (line 22) names 5 for alice, but port 1 (line 13) names it too, on a common switch",
+        )
+
+    def test_versions(self):
+        self.assert_told("port = []\n" + TOP, "1:1 a policy has no key port; with version = 2 it may have")
+        self.assertEqual(told("port = []\n" + TOP), ["1:1 a policy has no key port"])
+        self.assert_told(TOP.replace("= 1", "= 3", 1), "1:11 version is 3, but must be 1 or 2")
+        many = "".join(port_table("alice", number, number) for number in range(1025))
+        self.assert_told(self.top + many, "4104:1 there are 1025 ports, but at most 1024 may be")
+
+    def test_a_table_that_exchanges_nothing(self):
+        reading = read_policy((self.top + port_table("alice", 3, 3)).encode(), 2)
+        self.assertEqual([found.text for found in lint.warnings_of(reading)], ["port 0 (line 8) exchanges nothing: shown and physical are both 3"])
 
 
 class Faults(unittest.TestCase):

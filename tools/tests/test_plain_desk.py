@@ -18,6 +18,7 @@ from sunworsted import (
 
 from plain_desk import command
 from plain_desk.policy_file import PolicyRefused, read_policy
+from plain_desk.policy_print import policy_lines
 from plain_desk.recording import read_records
 from plain_desk.report import report_lines
 
@@ -109,6 +110,55 @@ class Statuses(unittest.TestCase):
             (recording(record(SLICE_UP, 0, slot=2)), "bad record at 8"), (recording(record(SLICE_UP, 0)), "not open at 8"),
         ]:
             self.assertEqual(run("replay", policy, self.file(data)), Outcome(3, "", f"recording: {told_of}\n"))
+
+
+PORT_FAULTS = (
+    ("port = 1", "bad value port"),
+    ("rule = 1\nport = 1", "bad value rule"),
+    ("port = 1\nzone = 1", "unknown key zone"),
+    ("port = [{ zone = 1, in_port = 2 }]", "unknown key port.0.in_port"),
+    ("port = [{}]", "missing port.0.slice"),
+    ("port = [{ slice = 1 }]", "bad value port.0.slice"),
+    ("port = [{ slice = 'bob', switch = 'A1' }]", "bad value port.0.switch"),
+    ("port = [{ slice = 'carol', shown = 65281 }]", "bad value port.0.shown"),
+    ("port = [{ slice = 'carol', shown = 9 }]", "missing port.0.physical"),
+    ("port = [{ slice = 'carol', shown = 9, physical = 2 }, {}]", "port 0 names no slice"),
+    ("rule = [{ priority = 1, write = 'carol' }]\nport = [{}]", "rule 0 names no slice"),
+    ("port = [{ slice = 'bob', shown = 9, physical = 2 }, { slice = 'bob', shown = 2, physical = 5 }]", "port 1 is named twice"),
+)
+
+
+class PortTables(unittest.TestCase):
+    """Policies of version 2."""
+
+    slices = "slice = [{ name = 'alice', controller = 'c' }, { name = 'bob', controller = 'c' }]"
+
+    def read(self, text, version=2):
+        return read_policy(f"version = {version}\n{text}\n{self.slices}\n".encode(), 2)
+
+    def test_first_faults(self):
+        for text, wanted in PORT_FAULTS:
+            with self.subTest(text), self.assertRaisesRegex(PolicyRefused, f"^{wanted}$"):
+                self.read(text)
+
+    def test_version_1_has_none(self):
+        with self.assertRaisesRegex(PolicyRefused, "^unknown key port$"):
+            self.read("port = []", version=1)
+        with self.assertRaisesRegex(PolicyRefused, "^bad value version$"):
+            self.read("", version=3)
+
+    def test_at_most_1024(self):
+        tables = [f"{{ slice = 'bob', shown = {number}, physical = {number} }}" for number in range(1025)]
+        self.assertEqual(len(self.read(f"port = [{', '.join(tables[1:])}]").swaps), 1024)
+        with self.assertRaisesRegex(PolicyRefused, "^too many ports 1025$"):
+            self.read(f"port = [{', '.join(tables)}]")
+
+    def test_print_and_back(self):
+        policy = self.read("port = [{ slice = 'bob', switch = '00000000000000a1', shown = 9, physical = 2 }, { slice = 'bob', shown = 3, physical = 3 }]")
+        lines = list(policy_lines(policy))
+        self.assertEqual(lines[0], "version = 2")
+        self.assertEqual(read_policy("\n".join(lines).encode(), 2), policy)
+        self.assertEqual(next(policy_lines(self.read("port = []"))), "version = 1")
 
 
 class Rules(unittest.TestCase):

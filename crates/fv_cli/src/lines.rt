@@ -91,6 +91,7 @@ fn place(at: &Place) -> [Piece<'_>; 4]
         Part::Top => return [Piece::Text(at.key.as_str()), NOTHING, NOTHING, NOTHING],
         Part::Slice => "slice.",
         Part::Rule => "rule.",
+        Part::Port => "port.",
     };
     [
         Piece::Text(table),

@@ -4,7 +4,8 @@ use Rattle.std.proofs.lemmas.Option.{same_Some}
 use Rattle.toml.specs.Data.{Data, table, Items, no_items, item, get_item, Members}
 use Rattle.flowspace.specs.declared.rules.Rule.{Rule}
 use Rattle.flowspace.specs.declared.slices.Slice.{Slice}
-use Rattle.policy_text.specs.declared.fault.Part.TheVariants as part
+use Rattle.flowspace.specs.declared.swaps.Swap.{Swap}
+use Rattle.policy_text.specs.declared.known_keys.Keys.TheVariants as keys
 use Rattle.policy_text.specs.declared.fault.ReadFault.{ReadFault}
 use Rattle.policy_laws.specs.Firsts.{AreReadAs, IsFirstRefused, StandsIn}
 use Rattle.of10_model.specs.Results.{◌>>=◌}
@@ -12,7 +13,8 @@ use Rattle.of10_model.proofs.Results.{bind_err, others_wrong}
 use Rattle.policy_text.specs.Reading.{reads}
 use Rattle.policy_text.specs.Rules.{rule_section, rule_of, rules_from}
 use Rattle.policy_text.specs.Slices.{slice_section, slice_of, slices_from}
-use Rattle.policy_text.proofs.Faults.{Has, OfKeys, slice_has, OfRule, rule_has}
+use Rattle.policy_text.specs.Ports.{port_section, swap_of, swaps_from}
+use Rattle.policy_text.proofs.Faults.{Has, OfKeys, slice_has, OfRule, rule_has, swap_has}
 
 -- ---- items in order
 
@@ -113,34 +115,51 @@ rules_read slices items rules = (read_each (rule_of slices) items rules, each_re
 pub rules_refused : (slices : List Slice) (items : Items) (fault : ReadFault) → (rules_from slices 0 items ≡ Err fault) ↔ IsFirstRefused (rule_of slices) items fault
 rules_refused slices items fault = (first_refused (rule_of slices) items fault, λ h. refused_at (rule_of slices) items fault h.index h.refused h.there h.fault_is h.earlier)
 
+pub swaps_read : (slices : List Slice) (items : Items) (swaps : List Swap) → (swaps_from slices 0 items ≡ Ok swaps) ↔ AreReadAs (swap_of slices) items swaps
+swaps_read slices items swaps = (read_each (swap_of slices) items swaps, each_read (swap_of slices) items swaps)
+
+pub swaps_refused : (slices : List Slice) (items : Items) (fault : ReadFault) → (swaps_from slices 0 items ≡ Err fault) ↔ IsFirstRefused (swap_of slices) items fault
+swaps_refused slices items fault = (first_refused (swap_of slices) items fault, λ h. refused_at (swap_of slices) items fault h.index h.refused h.there h.fault_is h.earlier)
+
 -- ---- where a fault stands
 
-slice_keys : (index : ℕ) (ms : Members) → OfKeys (StandsIn part.Slice index ms) (slice_section index ms)
+slice_keys : (index : ℕ) (ms : Members) → OfKeys (StandsIn keys.Slice index ms) keys.Slice (slice_section index ms)
 slice_keys index ms = record {
   needed = λ key needed not_there. (refl, refl, needed, not_there);
   known = λ key known d there bad. (refl, refl, known, (d, there, bad));
   unknown = λ key least. (refl, refl, least);
 }
 
-rule_keys : (index : ℕ) (ms : Members) → OfKeys (StandsIn part.Rule index ms) (rule_section index ms)
+rule_keys : (index : ℕ) (ms : Members) → OfKeys (StandsIn keys.Rule index ms) keys.Rule (rule_section index ms)
 rule_keys index ms = record {
   needed = λ key needed not_there. (refl, refl, needed, not_there);
   known = λ key known d there bad. (refl, refl, known, (d, there, bad));
   unknown = λ key least. (refl, refl, least);
 }
 
-by_number : (index : ℕ) (ms : Members) → OfRule (StandsIn part.Rule index ms) index ms
+port_keys : (index : ℕ) (ms : Members) → OfKeys (StandsIn keys.Port index ms) keys.Port (port_section index ms)
+port_keys index ms = record {
+  needed = λ key needed not_there. (refl, refl, needed, not_there);
+  known = λ key known d there bad. (refl, refl, known, (d, there, bad));
+  unknown = λ key least. (refl, refl, least);
+}
+
+by_number : (index : ℕ) (ms : Members) → OfRule (StandsIn keys.Rule index ms) index ms
 by_number index ms = record {
-  no_slice = λ there. (refl, refl, there);
+  no_slice = λ there. (refl, there);
   improper = λ field there. (refl, refl, there);
 }
 
 of_fault : (P : ReadFault → Type 0) {A : Type 0} (r : Result A ReadFault) (fault : ReadFault) → Has P r → r ≡ Err fault → P fault
 of_fault P r fault h e = rw e at h
 
-pub slice_stands : (index : ℕ) (ms : Members) (fault : ReadFault) → slice_of index (table ms) ≡ Err fault → StandsIn part.Slice index ms fault
-slice_stands index ms fault e = of_fault (StandsIn part.Slice index ms) (slice_of index (table ms)) fault (slice_has (StandsIn part.Slice index ms) index ms (slice_keys index ms)) e
+pub slice_stands : (index : ℕ) (ms : Members) (fault : ReadFault) → slice_of index (table ms) ≡ Err fault → StandsIn keys.Slice index ms fault
+slice_stands index ms fault e = of_fault (StandsIn keys.Slice index ms) (slice_of index (table ms)) fault (slice_has (StandsIn keys.Slice index ms) index ms (slice_keys index ms)) e
 
-pub rule_stands : (slices : List Slice) (index : ℕ) (ms : Members) (fault : ReadFault) → rule_of slices index (table ms) ≡ Err fault → StandsIn part.Rule index ms fault
+pub rule_stands : (slices : List Slice) (index : ℕ) (ms : Members) (fault : ReadFault) → rule_of slices index (table ms) ≡ Err fault → StandsIn keys.Rule index ms fault
 rule_stands slices index ms fault e =
-    of_fault (StandsIn part.Rule index ms) (rule_of slices index (table ms)) fault (rule_has (StandsIn part.Rule index ms) slices index ms (rule_keys index ms) (by_number index ms)) e
+    of_fault (StandsIn keys.Rule index ms) (rule_of slices index (table ms)) fault (rule_has (StandsIn keys.Rule index ms) slices index ms (rule_keys index ms) (by_number index ms)) e
+
+pub swap_stands : (slices : List Slice) (index : ℕ) (ms : Members) (fault : ReadFault) → swap_of slices index (table ms) ≡ Err fault → StandsIn keys.Port index ms fault
+swap_stands slices index ms fault e =
+    of_fault (StandsIn keys.Port index ms) (swap_of slices index (table ms)) fault (swap_has (StandsIn keys.Port index ms) slices index ms (port_keys index ms) (λ there. (refl, there))) e

@@ -1,3 +1,5 @@
 pub mod Firsts
+pub mod Ports
+pub mod Versions
 pub mod Names
 pub mod Readers

@@ -1,9 +1,12 @@
 -- Which fault of a policy text is its first, of items in order, and where a fault stands. All of it is this proxy's own rule.
 use Rattle.std.specs.Prelude.{◌≡◌, ◌⊎◌, ℕ, ◌<◌, true, false, List, slice_get, Option, Some, None, Result, Ok, Err, ⊤, codes}
 use Rattle.toml.specs.Data.{Data, Items, get_item, Members, get_member}
-use Rattle.flowspace.specs.declared.fault.PolicyFault.TheVariants.{UnknownSlice}
+use Rattle.flowspace.specs.declared.fault.PolicyFault.{PolicyFault}
+use Rattle.flowspace.specs.declared.fault.PolicyFault.TheVariants.{UnknownSlice, UnknownPortSlice}
 use Rattle.policy_text.specs.declared.fault.Part.{Part}
-use Rattle.policy_text.specs.declared.fault.Part.TheVariants.{Rule}
+use Rattle.policy_text.specs.declared.fault.Part.TheVariants as part
+use Rattle.policy_text.specs.declared.known_keys.Keys.{Keys}
+use Rattle.policy_text.specs.declared.known_keys.Keys.TheVariants.{Top, Slice, Rule, Port}
 use Rattle.policy_text.specs.declared.fault.ReadFault.{ReadFault}
 use Rattle.policy_text.specs.declared.fault.ReadFault.TheVariants.{NotToml, Missing, BadValue, UnknownKey, Improper, Refused, Memory}
 use Rattle.policy_text.specs.Places.{field_key}
@@ -33,16 +36,29 @@ pub record IsFirstRefused {A : Type 0} (read : ℕ → Data → Result A ReadFau
 
 -- ---- where a fault stands
 
+-- which part of a text has these keys
+abbrev pub part_of : Keys → Part
+part_of (Top version) = part.Top
+part_of Slice = part.Slice
+part_of Rule = part.Rule
+part_of Port = part.Port
+
 -- the value under a key is of another form than such a table has there
 abbrev pub HasBadValue : Part → Members → List ℕ → Type 0
 HasBadValue part members key = (d : Data) × (get_member key members ≡ Some d) × (has_form part key d ≡ false)
 
--- a fault of this table: at a key that it needs and lacks, a known one whose value is bad, or the least unknown one; or, of a rule, by its number, with a field or names that are there
-abbrev pub StandsIn : Part → ℕ → Members → ReadFault → Type 0
-StandsIn part index _ NotToml = ⊥
-StandsIn part index members (Missing at) = (at.part ≡ part) × (at.index ≡ index) × (is_needed part at.key ≡ true) × (IsKey members at.key → ⊥)
-StandsIn part index members (BadValue at) = (at.part ≡ part) × (at.index ≡ index) × (is_known_key part at.key ≡ true) × HasBadValue part members at.key
-StandsIn part index members (UnknownKey at) = (at.part ≡ part) × (at.index ≡ index) × IsLeastUnknown part members at.key
-StandsIn part index members (Improper rule field) = (part ≡ Rule) × (rule ≡ index) × IsKey members (field_key field)
-StandsIn part index members (Refused fault) = (part ≡ Rule) × (fault ≡ UnknownSlice index) × (IsKey members (codes "write") ⊎ IsKey members (codes "read"))
-StandsIn part index _ Memory = ⊥
+-- a name of no slice, by the number of the rule or of the port table, where names are there
+abbrev pub NamesNoSliceAt : Keys → ℕ → Members → PolicyFault → Type 0
+NamesNoSliceAt Rule index members fault = (fault ≡ UnknownSlice index) × (IsKey members (codes "write") ⊎ IsKey members (codes "read"))
+NamesNoSliceAt Port index members fault = (fault ≡ UnknownPortSlice index) × IsKey members (codes "slice")
+NamesNoSliceAt kind index members fault = ⊥
+
+-- a fault of this table: at a key that it needs and lacks, a known one whose value is bad, or the least unknown one; or, of a rule or a port table, by its number, with a field or names that are there
+abbrev pub StandsIn : Keys → ℕ → Members → ReadFault → Type 0
+StandsIn kind index _ NotToml = ⊥
+StandsIn kind index members (Missing at) = (at.part ≡ part_of kind) × (at.index ≡ index) × (is_needed (part_of kind) at.key ≡ true) × (IsKey members at.key → ⊥)
+StandsIn kind index members (BadValue at) = (at.part ≡ part_of kind) × (at.index ≡ index) × (is_known_key kind at.key ≡ true) × HasBadValue (part_of kind) members at.key
+StandsIn kind index members (UnknownKey at) = (at.part ≡ part_of kind) × (at.index ≡ index) × IsLeastUnknown kind members at.key
+StandsIn kind index members (Improper rule field) = (kind ≡ Rule) × (rule ≡ index) × IsKey members (field_key field)
+StandsIn kind index members (Refused fault) = NamesNoSliceAt kind index members fault
+StandsIn kind index _ Memory = ⊥

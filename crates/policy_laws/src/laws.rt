@@ -1,21 +1,27 @@
 //! Laws of the definitions. Each function's contract is the law; its body does nothing.
 
-ghost use Rattle.std.specs.Prelude.{ℕ, ◌^◌, ◌<◌, nat_eq, true, List, map, ◌≡◌, ◌↔◌, Some, Ok, Err};
+ghost use Rattle.std.specs.Prelude.{ℕ, ◌^◌, ◌<◌, ◌≤◌, nat_eq, true, List, [], map, ◌≡◌, ◌↔◌, Option, Some, None, Ok, Err};
 ghost use Rattle.std.specs.List.{list_any};
 ghost use Rattle.toml.specs.Data.{Items, Members, table};
 ghost use Rattle.of10_model.specs.Normal.{bit};
 ghost use Rattle.flowspace.specs.declared.rules.Rule.{Rule};
 ghost use Rattle.flowspace.specs.declared.slices.Slice.{Slice};
-ghost use Rattle.policy_text.specs.declared.fault.Part.TheVariants as part;
+ghost use Rattle.flowspace.specs.declared.swaps.Swap.{Swap};
+ghost use Rattle.flowspace.specs.Policies.{PolicyView};
+ghost use Rattle.policy_text.specs.declared.known_keys.Keys.{Keys};
+ghost use Rattle.policy_text.specs.declared.known_keys.Keys.TheVariants as keys;
 ghost use Rattle.policy_text.specs.declared.fault.ReadFault.{ReadFault};
-ghost use Rattle.flowspace.specs.declared.fault.PolicyFault.TheVariants.{UnknownSlice};
+ghost use Rattle.flowspace.specs.declared.fault.PolicyFault.TheVariants.{UnknownPortSlice, UnknownSlice};
 ghost use Rattle.flowspace.specs.declared.fault.Field.TheVariants.{Read};
 ghost use Rattle.policy_text.specs.declared.fault.ReadFault.TheVariants.{Improper, Refused, UnknownKey};
 ghost use Rattle.policy_text.specs.Keys.{AreKnown, IsLeastUnknown};
 ghost use Rattle.policy_laws.specs.Firsts.{AreReadAs, IsFirstRefused, StandsIn};
 ghost use Rattle.policy_text.specs.Reading.{SectionView, key_place, known_keys};
 ghost use Rattle.policy_laws.specs.Readers.{IsNamedSlot, NamesNoSlice, NamesSlices, NamesTwice, names_of_rule};
+ghost use Rattle.policy_laws.specs.Ports.{IsSwapOf};
 ghost use Rattle.policy_text.specs.Rules.{bits_below, RuleText, rule_from, rule_of, rules_from, slots_of};
+ghost use Rattle.policy_text.specs.Documents.{policy_up_to};
+ghost use Rattle.policy_text.specs.Ports.{PortText, swap_from, swap_of, swaps_from};
 ghost use Rattle.flowspace.specs.Slices.{slot_named};
 ghost use Rattle.policy_text.specs.Slices.{slice_of, slices_from};
 
@@ -33,20 +39,29 @@ pub fn refused_rule_is_the_first()
     ensures refused { (slices : List Slice) (items : Items) (fault : ReadFault) → (rules_from slices 0 items ≡ Err fault) ↔ IsFirstRefused (rule_of slices) items fault }
 {}
 
+/// Swaps are read exactly where each item is one that names one of these slices, in order; else the fault
+/// is that of the first item that is none, read at its own index.
+pub fn refused_swap_is_the_first()
+    ensures read { (slices : List Slice) (items : Items) (swaps : List Swap) → (swaps_from slices 0 items ≡ Ok swaps) ↔ AreReadAs (swap_of slices) items swaps }
+    ensures refused { (slices : List Slice) (items : Items) (fault : ReadFault) → (swaps_from slices 0 items ≡ Err fault) ↔ IsFirstRefused (swap_of slices) items fault }
+{}
+
 /// A table whose keys are all known has no fault of a key; else the fault names the unknown key below
 /// which there is no other.
 pub fn named_key_is_the_least_unknown()
-    ensures known { (this : SectionView) → (known_keys this ≡ Ok tt) ↔ AreKnown this.part this.members }
-    ensures unknown { (this : SectionView) (key : List ℕ) → (known_keys this ≡ Err (UnknownKey (key_place this key))) ↔ IsLeastUnknown this.part this.members key }
+    ensures known { (kind : Keys) (this : SectionView) → (known_keys kind this ≡ Ok tt) ↔ AreKnown kind this.members }
+    ensures unknown { (kind : Keys) (this : SectionView) (key : List ℕ) → (known_keys kind this ≡ Err (UnknownKey (key_place this key))) ↔ IsLeastUnknown kind this.members key }
 {}
 
-/// A fault that the table of a slice or of a rule has names this table, with its index, and a key: one
+/// A fault that the table of a slice, a rule or a port has names this table, with its index, and a key: one
 /// that such a table needs and this one lacks, one that it may have and whose value here is of another form
 /// than such a table has there, or the least that it has and may not have. Or, of a rule, it has the rule's
-/// number: with a field whose key is in the table, or for a slice where the table has `write` or `read`.
+/// number: with a field whose key is in the table, or for a slice where the table has `write` or `read`; or,
+/// of a port table, its number, for a slice where the table has `slice`.
 pub fn fault_stands_in_its_table()
-    ensures slice { (index : ℕ) (members : Members) (fault : ReadFault) → slice_of index (table members) ≡ Err fault → StandsIn part.Slice index members fault }
-    ensures rule { (slices : List Slice) (index : ℕ) (members : Members) (fault : ReadFault) → rule_of slices index (table members) ≡ Err fault → StandsIn part.Rule index members fault }
+    ensures slice { (index : ℕ) (members : Members) (fault : ReadFault) → slice_of index (table members) ≡ Err fault → StandsIn keys.Slice index members fault }
+    ensures rule { (slices : List Slice) (index : ℕ) (members : Members) (fault : ReadFault) → rule_of slices index (table members) ≡ Err fault → StandsIn keys.Rule index members fault }
+    ensures port { (slices : List Slice) (index : ℕ) (members : Members) (fault : ReadFault) → swap_of slices index (table members) ≡ Err fault → StandsIn keys.Port index members fault }
 {}
 
 /// The readers of a rule are the slots that its names say, below 32: of the bits of a list of slots bit k
@@ -65,4 +80,21 @@ pub fn names_are_of_slices()
     ensures slots { (slices : List Slice) (index : ℕ) (names : List (List ℕ)) (slots : List ℕ) → (slots_of slices index names ≡ Ok slots) ↔ (map (slot_named slices) names ≡ map Some slots) }
     ensures missing { (slices : List Slice) (index : ℕ) (said : RuleText) → (rule_from slices index said ≡ Err (Refused (UnknownSlice index))) ↔ NamesNoSlice slices (names_of_rule said) }
     ensures repeated { (slices : List Slice) (index : ℕ) (said : RuleText) → (rule_from slices index said ≡ Err (Improper index Read)) ↔ (NamesSlices slices (names_of_rule said) × NamesTwice slices said.read) }
+{}
+
+/// A port table is read as a swap exactly where its name is a slice's; else it is refused for a name that no
+/// slice has.
+pub fn port_table_names_a_slice()
+    ensures read { (slices : List Slice) (index : ℕ) (said : PortText) (swap : Swap) → (swap_from slices index said ≡ Ok swap) ↔ IsSwapOf slices said swap }
+    ensures missing { (slices : List Slice) (index : ℕ) (said : PortText) (fault : ReadFault) → (swap_from slices index said ≡ Err fault) ↔ ((slot_named slices said.slice ≡ None) × (fault ≡ Refused (UnknownPortSlice index))) }
+{}
+
+/// What a text of version 1 says has no swaps.
+pub fn version_one_has_no_swaps()
+    ensures { (document : Option Members) (policy : PolicyView) → policy_up_to 1 document ≡ Ok policy → policy.swaps ≡ [] }
+{}
+
+/// A text that is accepted up to a version is accepted, as the same policy, up to each higher one.
+pub fn higher_versions_change_no_policy()
+    ensures { (lower higher : ℕ) (document : Option Members) (policy : PolicyView) → lower ≤ higher → policy_up_to lower document ≡ Ok policy → policy_up_to higher document ≡ Ok policy }
 {}

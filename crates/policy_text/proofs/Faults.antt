@@ -2,12 +2,14 @@
 use Rattle.std.proofs.Common.{ℕ, List, [], ◌∷◌, Bool, true, false, cond, Option, Some, None, IfSome, is_some, ◌≡◌, ◌⊎◌, inl, inr, refl, Result, Ok, Err, IfErr, codes}
 use Rattle.toml.specs.Data.{Data, Members, get_member}
 use Rattle.flowspace.specs.declared.fault.Field.{Field}
-use Rattle.flowspace.specs.declared.fault.PolicyFault.TheVariants.{UnknownSlice}
+use Rattle.flowspace.specs.declared.fault.PolicyFault.TheVariants.{UnknownSlice, UnknownPortSlice}
 use Rattle.flowspace.specs.declared.slices.Slice.{Slice}
 use Rattle.flowspace.specs.Rules.{first_improper}
 use Rattle.policy_text.specs.declared.fault.Place.{Place}
 use Rattle.policy_text.specs.declared.fault.ReadFault.{ReadFault}
 use Rattle.policy_text.specs.declared.fault.ReadFault.TheVariants.{Missing, BadValue, UnknownKey, Improper, Refused}
+use Rattle.policy_text.specs.declared.known_keys.Keys.{Keys}
+use Rattle.policy_text.specs.declared.known_keys.Keys.TheVariants as keys
 use Rattle.policy_text.specs.declared.values.Numbers.TheVariants.{UpTo, Between, InPort, Vlan, Service}
 use Rattle.policy_text.specs.declared.values.Numerals.TheVariants.{Datapath, Hardware}
 use Rattle.policy_text.specs.declared.values.Texts.TheVariants.{Name, Controller, Any}
@@ -17,8 +19,10 @@ use Rattle.policy_text.specs.Places.{field_key}
 use Rattle.policy_text.specs.Reading.{SectionView, key_place, is_known_key, least_text, unknown_keys, no_unknown, known_keys, value_formed, demanded, allowed, required, optional, number, numeral, addresses, text, text_list}
 use Rattle.policy_text.specs.Slices.{slice_section, slice_of_table}
 use Rattle.policy_text.specs.Rules.{link_in, pattern_in, known_slot, writer_slot, slots_of, are_different, no_improper, proper, RuleText, names_under, rule_text_in, rule_from, rule_section, rule_in}
+use Rattle.policy_text.specs.Ports.{port_section, PortText, port_text_in, port_slot, swap_from, swap_in}
 use Rattle.flowspace.specs.Slices.{slot_named}
-use Rattle.policy_text.proofs.Keys.{not_there, IsFor, for_any, TextThere, text_there, same_slots_there, improper_there}
+use Rattle.of10_model.proofs.Results.{bind_ok}
+use Rattle.policy_text.proofs.Keys.{not_there, required_there, IsFor, for_any, TextThere, text_there, same_slots_there, improper_there}
 use Rattle.policy_text.proofs.LeastUnknown.{IsNamed, named as named_least}
 
 -- the fault of a reading, where it has one, is of this kind
@@ -42,10 +46,10 @@ abbrev pub OfMissing : (ReadFault → Type 0) → SectionView → List ℕ → T
 OfMissing P this key = (IsKey this.members key → ⊥) → P (Missing (key_place this key))
 
 -- each fault of a table's keys is of this kind
-pub record OfKeys (P : ReadFault → Type 0) (this : SectionView) : Type 0 where
+pub record OfKeys (P : ReadFault → Type 0) (kind : Keys) (this : SectionView) : Type 0 where
   pub needed : (key : List ℕ) → is_needed this.part key ≡ true → OfMissing P this key
-  pub known : (key : List ℕ) → is_known_key this.part key ≡ true → OfValue P this key (has_form this.part key)
-  pub unknown : (key : List ℕ) → IsLeastUnknown this.part this.members key → P (UnknownKey (key_place this key))
+  pub known : (key : List ℕ) → is_known_key kind key ≡ true → OfValue P this key (has_form this.part key)
+  pub unknown : (key : List ℕ) → IsLeastUnknown kind this.members key → P (UnknownKey (key_place this key))
 
 formed_has : (P : ReadFault → Type 0) {A : Type 0} (at : Place) (o : Option A) → (is_some o ≡ false → P (BadValue at)) → Has P (value_formed at o)
 formed_has P at None bad = bad refl
@@ -67,20 +71,20 @@ required_has P read this key m h = demanded_has P read this key (get_member key 
 pub optional_has : (P : ReadFault → Type 0) {A : Type 0} (read : Data → Option A) (this : SectionView) (key : List ℕ) → OfValue P this key (λ d. is_some (read d)) → Has P (optional read this key)
 optional_has P read this key h = allowed_has P read this key (get_member key this.members) refl h
 
-no_unknown_has : (P : ReadFault → Type 0) (this : SectionView) (o : Option (List ℕ)) → IsNamed this.part this.members o → OfKeys P this → Has P (no_unknown this o)
-no_unknown_has P this None n h = tt
-no_unknown_has P this (Some key) n h = h.unknown key n
+no_unknown_has : (P : ReadFault → Type 0) (kind : Keys) (this : SectionView) (o : Option (List ℕ)) → IsNamed kind this.members o → OfKeys P kind this → Has P (no_unknown this o)
+no_unknown_has P kind this None n h = tt
+no_unknown_has P kind this (Some key) n h = h.unknown key n
 
-pub known_has : (P : ReadFault → Type 0) (this : SectionView) → OfKeys P this → Has P (known_keys this)
-known_has P this h = no_unknown_has P this (least_text (unknown_keys this.part this.members)) (named_least this.part this.members) h
+pub known_has : (P : ReadFault → Type 0) (kind : Keys) (this : SectionView) → OfKeys P kind this → Has P (known_keys kind this)
+known_has P kind this h = no_unknown_has P kind this (least_text (unknown_keys kind this.members)) (named_least kind this.members) h
 
 -- ---- slices
 
-pub slice_has : (P : ReadFault → Type 0) (index : ℕ) (ms : Members) → OfKeys P (slice_section index ms) → Has P (slice_of_table (slice_section index ms))
+pub slice_has : (P : ReadFault → Type 0) (index : ℕ) (ms : Members) → OfKeys P keys.Slice (slice_section index ms) → Has P (slice_of_table (slice_section index ms))
 unfolding slice_of_table
 slice_has P index ms h =
     let this = slice_section index ms in
-    bind_has P (known_keys this) _ (known_has P this h) (λ _.
+    bind_has P (known_keys keys.Slice this) _ (known_has P keys.Slice this h) (λ _.
     bind_has P (required (text Name) this (codes "name")) _ (required_has P (text Name) this (codes "name") (h.needed (codes "name") refl) (h.known (codes "name") refl)) (λ _.
     bind_has P (required (text Controller) this (codes "controller")) _ (required_has P (text Controller) this (codes "controller") (h.needed (codes "controller") refl) (h.known (codes "controller") refl)) (λ _.
     bind_has P (optional (number (Between 1 1000000)) this (codes "rate")) _ (optional_has P (number (Between 1 1000000)) this (codes "rate") (h.known (codes "rate") refl)) (λ _.
@@ -89,7 +93,7 @@ slice_has P index ms h =
 
 -- ---- rules
 
-link_has : (P : ReadFault → Type 0) (index : ℕ) (ms : Members) → OfKeys P (rule_section index ms) → Has P (link_in (rule_section index ms))
+link_has : (P : ReadFault → Type 0) (index : ℕ) (ms : Members) → OfKeys P keys.Rule (rule_section index ms) → Has P (link_in (rule_section index ms))
 unfolding link_in
 link_has P index ms h =
     let this = rule_section index ms in
@@ -100,7 +104,7 @@ link_has P index ms h =
     bind_has P (optional (number (UpTo 7)) this (codes "dl_vlan_pcp")) _ (optional_has P (number (UpTo 7)) this (codes "dl_vlan_pcp") (h.known (codes "dl_vlan_pcp") refl)) (λ _.
     bind_has P (optional (number (UpTo 0xffff)) this (codes "dl_type")) _ (optional_has P (number (UpTo 0xffff)) this (codes "dl_type") (h.known (codes "dl_type") refl)) (λ _. tt))))))
 
-pattern_has : (P : ReadFault → Type 0) (index : ℕ) (ms : Members) → OfKeys P (rule_section index ms) → Has P (pattern_in (rule_section index ms))
+pattern_has : (P : ReadFault → Type 0) (index : ℕ) (ms : Members) → OfKeys P keys.Rule (rule_section index ms) → Has P (pattern_in (rule_section index ms))
 unfolding pattern_in
 pattern_has P index ms h =
     let this = rule_section index ms in
@@ -112,11 +116,11 @@ pattern_has P index ms h =
     bind_has P (optional (number (UpTo 0xffff)) this (codes "tp_src")) _ (optional_has P (number (UpTo 0xffff)) this (codes "tp_src") (h.known (codes "tp_src") refl)) (λ _.
     bind_has P (optional (number (UpTo 0xffff)) this (codes "tp_dst")) _ (optional_has P (number (UpTo 0xffff)) this (codes "tp_dst") (h.known (codes "tp_dst") refl)) (λ _. tt)))))))
 
-text_has : (P : ReadFault → Type 0) (index : ℕ) (ms : Members) → OfKeys P (rule_section index ms) → Has P (rule_text_in (rule_section index ms))
+text_has : (P : ReadFault → Type 0) (index : ℕ) (ms : Members) → OfKeys P keys.Rule (rule_section index ms) → Has P (rule_text_in (rule_section index ms))
 unfolding rule_text_in
 text_has P index ms h =
     let this = rule_section index ms in
-    bind_has P (known_keys this) _ (known_has P this h) (λ _.
+    bind_has P (known_keys keys.Rule this) _ (known_has P keys.Rule this h) (λ _.
     bind_has P (optional (numeral Datapath) this (codes "switch")) _ (optional_has P (numeral Datapath) this (codes "switch") (h.known (codes "switch") refl)) (λ _.
     bind_has P (required (number (UpTo 0xffffffff)) this (codes "priority")) _ (required_has P (number (UpTo 0xffffffff)) this (codes "priority") (h.needed (codes "priority") refl) (h.known (codes "priority") refl)) (λ _.
     bind_has P (optional (text Any) this (codes "write")) _ (optional_has P (text Any) this (codes "write") (h.known (codes "write") refl)) (λ _.
@@ -159,6 +163,37 @@ from_has P slices index ms t h there =
     (no_improper_has P index ms _ h (either_there ms (are_different slots) (first_improper t.pattern) _ (λ same. same_slots_there slices index t.read slots (IsKey ms (codes "read")) e same there.read) (improper_there ms t.pattern there.pattern)))
     (λ _. tt)))
 
-pub rule_has : (P : ReadFault → Type 0) (slices : List Slice) (index : ℕ) (ms : Members) → OfKeys P (rule_section index ms) → OfRule P index ms → Has P (rule_in slices (rule_section index ms))
-rule_has P slices index ms keys h =
-    bind_has_after P (rule_text_in (rule_section index ms)) (rule_from slices index) (text_has P index ms keys) (λ t e. from_has P slices index ms t h (text_there (rule_section index ms) t e))
+pub rule_has : (P : ReadFault → Type 0) (slices : List Slice) (index : ℕ) (ms : Members) → OfKeys P keys.Rule (rule_section index ms) → OfRule P index ms → Has P (rule_in slices (rule_section index ms))
+rule_has P slices index ms of_keys h =
+    bind_has_after P (rule_text_in (rule_section index ms)) (rule_from slices index) (text_has P index ms of_keys) (λ t e. from_has P slices index ms t h (text_there (rule_section index ms) t e))
+
+-- ---- port tables
+
+port_text_has : (P : ReadFault → Type 0) (index : ℕ) (ms : Members) → OfKeys P keys.Port (port_section index ms) → Has P (port_text_in (port_section index ms))
+unfolding port_text_in
+port_text_has P index ms h =
+    let this = port_section index ms in
+    bind_has P (known_keys keys.Port this) _ (known_has P keys.Port this h) (λ _.
+    bind_has P (required (text Any) this (codes "slice")) _ (required_has P (text Any) this (codes "slice") (h.needed (codes "slice") refl) (h.known (codes "slice") refl)) (λ _.
+    bind_has P (optional (numeral Datapath) this (codes "switch")) _ (optional_has P (numeral Datapath) this (codes "switch") (h.known (codes "switch") refl)) (λ _.
+    bind_has P (required (number (UpTo 0xff00)) this (codes "shown")) _ (required_has P (number (UpTo 0xff00)) this (codes "shown") (h.needed (codes "shown") refl) (h.known (codes "shown") refl)) (λ _.
+    bind_has P (required (number (UpTo 0xff00)) this (codes "physical")) _ (required_has P (number (UpTo 0xff00)) this (codes "physical") (h.needed (codes "physical") refl) (h.known (codes "physical") refl)) (λ _. tt)))))
+
+slice_there : (this : SectionView) (t : PortText) → port_text_in this ≡ Ok t → IsKey this.members (codes "slice")
+unfolding port_text_in
+slice_there this t e =
+    let k = bind_ok (known_keys keys.Port this) _ t e in
+    let a = bind_ok (required (text Any) this (codes "slice")) _ t k.2 in
+    required_there (text Any) this (codes "slice") a.0 a.1
+
+port_slot_has : (P : ReadFault → Type 0) (index : ℕ) (o : Option ℕ) → P (Refused (UnknownPortSlice index)) → Has P (port_slot index o)
+port_slot_has P index None no_slice = no_slice
+port_slot_has P index (Some slot) no_slice = tt
+
+swap_from_has : (P : ReadFault → Type 0) (slices : List Slice) (index : ℕ) (t : PortText) → P (Refused (UnknownPortSlice index)) → Has P (swap_from slices index t)
+unfolding swap_from
+swap_from_has P slices index t no_slice = bind_has P (port_slot index (slot_named slices t.slice)) _ (port_slot_has P index (slot_named slices t.slice) no_slice) (λ _. tt)
+
+pub swap_has : (P : ReadFault → Type 0) (slices : List Slice) (index : ℕ) (ms : Members) → OfKeys P keys.Port (port_section index ms) → (IsKey ms (codes "slice") → P (Refused (UnknownPortSlice index))) → Has P (swap_in slices (port_section index ms))
+swap_has P slices index ms of_keys no_slice =
+    bind_has_after P (port_text_in (port_section index ms)) (swap_from slices index) (port_text_has P index ms of_keys) (λ t e. swap_from_has P slices index t (no_slice (slice_there (port_section index ms) t e)))

@@ -17,7 +17,7 @@ use Rattle.policy_text.specs.declared.values.Numbers.TheVariants.{UpTo, Service}
 use Rattle.policy_text.specs.declared.values.Texts.TheVariants.{Any}
 use Rattle.policy_text.specs.Keys.{IsKey}
 use Rattle.policy_text.specs.Places.{field_key}
-use Rattle.policy_text.specs.Reading.{SectionView, key_place, allowed, optional, number, addresses, text, text_list}
+use Rattle.policy_text.specs.Reading.{SectionView, key_place, demanded, allowed, required, optional, number, addresses, text, text_list}
 use Rattle.policy_text.specs.Rules.{slots_of, are_different, RuleText, names_under, rule_text_in}
 use Rattle.policy_text.proofs.RuleParts.{PatternRead, pattern_read, rule_read}
 
@@ -58,6 +58,13 @@ allowed_there read this key (Some d) y at e some = is_there key this.members d a
 
 pub optional_there : {A : Type 0} (read : Data → Option A) (this : SectionView) (key : List ℕ) (y : Option A) → optional read this key ≡ Ok y → is_some y ≡ true → IsKey this.members key
 optional_there read this key y e some = allowed_there read this key (get_member key this.members) y refl e some
+
+demanded_there : {A : Type 0} (read : Data → Option A) (this : SectionView) (key : List ℕ) (o : Option Data) (y : A) → get_member key this.members ≡ o → demanded read (key_place this key) o ≡ Ok y → IsKey this.members key
+demanded_there read this key None y at e = absurd cc
+demanded_there read this key (Some d) y at e = is_there key this.members d at
+
+pub required_there : {A : Type 0} (read : Data → Option A) (this : SectionView) (key : List ℕ) (y : A) → required read this key ≡ Ok y → IsKey this.members key
+required_there read this key y e = demanded_there read this key (get_member key this.members) y refl e
 
 -- ---- the keys of a rule
 

@@ -9,7 +9,7 @@ use Rattle.toml.specs.Tables.{Node, Nodes, no_nodes, node, value, get_node, inse
 use Rattle.toml.proofs.NodeLaws.{same_key-self, get_node-insert}
 use Rattle.toml.proofs.Turns.{at_key_new}
 use Rattle.toml.proofs.ReadLines.{run}
-use Rattle.policy_text.specs.declared.fault.Part.{Part}
+use Rattle.policy_text.specs.declared.known_keys.Keys.{Keys}
 use Rattle.policy_text.specs.Reading.{is_known_key, unknown_keys}
 use Rattle.policy_text.specs.Printing.{Entry}
 use Rattle.policy_text.proofs.Keys.{equal_is}
@@ -77,15 +77,15 @@ known_head : (b : Bool) (key : List ℕ) (rest : List (List ℕ)) → cond b res
 known_head true key rest e = (refl, e)
 known_head false key rest e = absurd cc
 
-unknown_insert : (part : Part) (key : List ℕ) (x : Node) (ns : Nodes) → is_known_key part key ≡ true → unknown_keys part (close ns) ≡ [] → unknown_keys part (close (insert key x ns)) ≡ []
-unknown_insert part key x no_nodes known none = rw known refl
-unknown_insert part key x (node l y ns) known none =
-    let (known_l, rest) = known_head (is_known_key part l) l (unknown_keys part (close ns)) none in
+unknown_insert : (kind : Keys) (key : List ℕ) (x : Node) (ns : Nodes) → is_known_key kind key ≡ true → unknown_keys kind (close ns) ≡ [] → unknown_keys kind (close (insert key x ns)) ≡ []
+unknown_insert kind key x no_nodes known none = rw known refl
+unknown_insert kind key x (node l y ns) known none =
+    let (known_l, rest) = known_head (is_known_key kind l) l (unknown_keys kind (close ns)) none in
     elim (three (slice_cmp nat_cmp key l)) [
       | inl less ↦ rw (less, known, known_l) rest
       | inr more ↦ elim more [
         | inl tie ↦ rw (tie, known_l) rest
-        | inr greater ↦ rw (greater, known_l) (unknown_insert part key x ns known rest)
+        | inr greater ↦ rw (greater, known_l) (unknown_insert kind key x ns known rest)
       ]
     ]
 
@@ -164,21 +164,21 @@ get_entry key entries apart =
     get_close key (filled entries no_nodes) ∙ ap (option_map close_node) (get_filled key entries no_nodes apart (AreNew-none entries)) ∙ seen_back (found key entries)
 
 -- each key is one that such a table may have
-abbrev pub all_known : Part → List Entry → Bool
-all_known part [] = true
-all_known part (entry ∷ rest) = is_known_key part entry.0 && all_known part rest
+abbrev pub all_known : Keys → List Entry → Bool
+all_known kind [] = true
+all_known kind (entry ∷ rest) = is_known_key kind entry.0 && all_known kind rest
 
-known_filled : (part : Part) (entries : List Entry) (ns : Nodes) → all_known part entries ≡ true → unknown_keys part (close ns) ≡ [] → unknown_keys part (close (filled entries ns)) ≡ []
-known_filled part [] ns known none = none
-known_filled part ((key, None) ∷ rest) ns known none =
-    let (here, more) = and_parts (is_known_key part key) (all_known part rest) known in
-    known_filled part rest ns more none
-known_filled part ((key, Some d) ∷ rest) ns known none =
-    let (here, more) = and_parts (is_known_key part key) (all_known part rest) known in
-    known_filled part rest (insert key (value d) ns) more (unknown_insert part key (value d) ns here none)
+known_filled : (kind : Keys) (entries : List Entry) (ns : Nodes) → all_known kind entries ≡ true → unknown_keys kind (close ns) ≡ [] → unknown_keys kind (close (filled entries ns)) ≡ []
+known_filled kind [] ns known none = none
+known_filled kind ((key, None) ∷ rest) ns known none =
+    let (here, more) = and_parts (is_known_key kind key) (all_known kind rest) known in
+    known_filled kind rest ns more none
+known_filled kind ((key, Some d) ∷ rest) ns known none =
+    let (here, more) = and_parts (is_known_key kind key) (all_known kind rest) known in
+    known_filled kind rest (insert key (value d) ns) more (unknown_insert kind key (value d) ns here none)
 
-pub known_entries : (part : Part) (entries : List Entry) → all_known part entries ≡ true → unknown_keys part (members_from entries) ≡ []
-known_entries part entries known = known_filled part entries no_nodes known refl
+pub known_entries : (kind : Keys) (entries : List Entry) → all_known kind entries ≡ true → unknown_keys kind (members_from entries) ≡ []
+known_entries kind entries known = known_filled kind entries no_nodes known refl
 
 -- ---- lines
 

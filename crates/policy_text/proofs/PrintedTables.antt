@@ -1,4 +1,4 @@
--- The tables that are printed for slices and rules are read as them.
+-- The tables that are printed for slices, rules and swaps are read as them.
 use Rattle.std.proofs.Common.{◌≡◌, ◌≢◌, inl, inr, ℕ, suc, ◌%◌, ◌^◌, ◌<◌, ◌≤◌, ◌==◌, Bool, true, le-leb, eq-eqb, eqb-true, List, [], ◌∷◌, ◌++◌, length, map, get_or, AllPairs, Option, Some, None, IfSome, option_map, option_and_then, unwrap_or, Result, Ok, codes, refl, sym, ap, ◌∙◌, arith}
 use Rattle.std.specs.List.{AllByRecursion}
 use Rattle.std.proofs.lemmas.Bool.{cases_Bool}
@@ -8,8 +8,10 @@ use Rattle.of10_model.specs.declared.pattern.Prefix.{Prefix}
 use Rattle.of10_model.specs.Normal.{IsBelow, IsService, IsPrefix}
 use Rattle.flowspace.specs.declared.rules.Rule.{Rule}
 use Rattle.flowspace.specs.declared.slices.Slice.{Slice}
+use Rattle.flowspace.specs.declared.swaps.Swap.{Swap}
 use Rattle.flowspace.specs.Rules.{IsInPort, IsVlan, IsPlainRule}
 use Rattle.flowspace.specs.Slices.{IsPlainSlice}
+use Rattle.flowspace.specs.Swaps.{IsPlainSwap}
 use Rattle.flowspace.proofs.Improper.{none_improper}
 use Rattle.flowspace.proofs.Naming.{name_from, controller_from}
 use Rattle.flowspace.proofs.Owning.{is_in_port-IsInPort}
@@ -17,6 +19,8 @@ use Rattle.policy_text.specs.declared.fault.Part.{Part}
 use Rattle.policy_text.specs.declared.fault.Part.TheVariants as part
 use Rattle.policy_text.specs.declared.fault.Place.{Place}
 use Rattle.policy_text.specs.declared.fault.ReadFault.{ReadFault}
+use Rattle.policy_text.specs.declared.known_keys.Keys.{Keys}
+use Rattle.policy_text.specs.declared.known_keys.Keys.TheVariants as keys
 use Rattle.policy_text.specs.declared.values.Numbers.{Numbers}
 use Rattle.policy_text.specs.declared.values.Numbers.TheVariants.{UpTo, Between, InPort, Vlan, Service}
 use Rattle.policy_text.specs.declared.values.Numerals.TheVariants.{Datapath, Hardware}
@@ -27,10 +31,11 @@ use Rattle.flowspace.specs.Options.{when}
 use Rattle.policy_text.specs.Reading.{SectionView, key_place, least_text, no_unknown, known_keys, value_formed, demanded, allowed, required, optional, is_allowed_number, number, is_text, text, each_text, text_list, numeral, addresses, reads}
 use Rattle.policy_text.specs.Slices.{slice_of_table, slice_of, slices_from}
 use Rattle.policy_text.specs.Rules.{link_in, pattern_in, known_slot, writer_slot, are_different, bits_below, no_improper, proper, RuleText, names_under, rule_text_in, rule_from, rule_in, rule_of, rules_from}
+use Rattle.policy_text.specs.Ports.{PortText, port_text_in, port_slot, swap_from, swap_in, swap_of, swaps_from}
 use Rattle.flowspace.specs.Slices.{slot_named}
 use Rattle.address_text.specs.Texts.{hex_text, hardware_text, prefix_text}
-use Rattle.policy_text.specs.Printing.{Entry, unless_default, slice_entries, number_value, text_value, slice_name, names_in, names_array, entries_beside, link_entries, network_entries, IsRuleInRange}
-use Rattle.policy_text.proofs.Sound.{rule_from_is}
+use Rattle.policy_text.specs.Printing.{Entry, unless_default, slice_entries, number_value, text_value, slice_name, names_in, names_array, entries_beside, link_entries, network_entries, swap_entries, IsRuleInRange, IsSwapInRange}
+use Rattle.policy_text.proofs.Sound.{rule_from_is, swap_from_is}
 use Rattle.policy_text.proofs.PrintedNodes.{are_apart, found, members_from, get_entry, all_known, known_entries, table_of}
 use Rattle.policy_text.proofs.PrintedReaders.{slot_back, name_at_back, readers_back}
 use Rattle.address_text.proofs.Printed.{datapath_back, hardware_back, prefix_back}
@@ -41,8 +46,8 @@ use Rattle.address_text.proofs.Printed.{datapath_back, hardware_back, prefix_bac
 abbrev of_entries : Part → ℕ → List Entry → SectionView
 of_entries kind index entries = record { part = kind; index = index; members = members_from entries }
 
-known_back : (kind : Part) (index : ℕ) (entries : List Entry) → all_known kind entries ≡ true → known_keys (of_entries kind index entries) ≡ Ok tt
-known_back kind index entries known = ap (λ keys. no_unknown (of_entries kind index entries) (least_text keys)) (known_entries kind entries known)
+known_back : (allowed_keys : Keys) (kind : Part) (index : ℕ) (entries : List Entry) → all_known allowed_keys entries ≡ true → known_keys allowed_keys (of_entries kind index entries) ≡ Ok tt
+known_back allowed_keys kind index entries known = ap (λ unknown. no_unknown (of_entries kind index entries) (least_text unknown)) (known_entries allowed_keys entries known)
 
 optional_back : {A : Type 0} (kind : Part) (index : ℕ) (entries : List Entry) (read : Data → Option A) (key : List ℕ) (r : Result (Option A) ReadFault) → are_apart entries ≡ true
     → allowed read (key_place (of_entries kind index entries) key) (found key entries) ≡ r → optional read (of_entries kind index entries) key ≡ r
@@ -104,7 +109,7 @@ slice_back index s plain =
     let rate = default_back (Between 1 1000000) (key_place this (codes "rate")) 1000 s.rate (between 1 1000000 s.rate plain.rate_some plain.rate_limit) in
     let burst = default_back (Between 1 1000000) (key_place this (codes "burst")) 1000 s.burst (between 1 1000000 s.burst plain.burst_some plain.burst_limit) in
     let quota = default_back (UpTo 4096) (key_place this (codes "quota")) 1024 s.quota (le-leb s.quota 4096 plain.quota_limit) in
-    bind_is (known_keys this) _ tt _ (known_back part.Slice index entries refl)
+    bind_is (known_keys keys.Slice this) _ tt _ (known_back keys.Slice part.Slice index entries refl)
     (bind_is (required (text Name) this (codes "name")) _ s.name _ (required_back part.Slice index entries (text Name) (codes "name") (Ok s.name) refl (formed_back _ _ s.name (when_back (is_text Name s.name) s.name (name_is s plain))))
     (bind_is (required (text Controller) this (codes "controller")) _ s.controller _ (required_back part.Slice index entries (text Controller) (codes "controller") (Ok s.controller) refl (formed_back _ _ s.controller (when_back (is_text Controller s.controller) s.controller (controller_is s plain))))
     (bind_is (optional (number (Between 1 1000000)) this (codes "rate")) _ rate.read _ (optional_back part.Slice index entries (number (Between 1 1000000)) (codes "rate") (Ok rate.read) refl rate.is)
@@ -236,7 +241,7 @@ unfolding rule_text_in this entries
 rule_text_read slices index r plain held =
     let all = rule_entries slices r in
     let at = of_entries part.Rule index all in
-    bind_is (known_keys at) _ tt _ (known_back part.Rule index all refl)
+    bind_is (known_keys keys.Rule at) _ tt _ (known_back keys.Rule part.Rule index all refl)
     (bind_is (optional (numeral Datapath) at (codes "switch")) _ r.switch _ (optional_back part.Rule index all (numeral Datapath) (codes "switch") (Ok r.switch) refl (text_back (numeral Datapath) (hex_text 16) (key_place at (codes "switch")) r.switch (switch_allowed r.switch held.switch)))
     (bind_is (required (number (UpTo 0xffffffff)) at (codes "priority")) _ r.priority _ (required_back part.Rule index all (number (UpTo 0xffffffff)) (codes "priority") (Ok r.priority) refl (formed_back _ _ r.priority (when_back (is_allowed_number (UpTo 0xffffffff) r.priority) r.priority (le-leb r.priority 0xffffffff (omega (arith, held.priority))))))
     (bind_is (optional (text Any) at (codes "write")) _ (option_and_then (slice_name slices) r.writer) _ (optional_back part.Rule index all (text Any) (codes "write") (Ok (option_and_then (slice_name slices) r.writer)) refl (any_back (key_place at (codes "write")) (option_and_then (slice_name slices) r.writer)))
@@ -255,6 +260,37 @@ rule_back slices index r known plain held writer readers =
     bind_is (rule_text_in at) (rule_from slices index) said _ (rule_text_read slices index r plain held)
     (rule_from_is slices index said r.writer back.slots tt (writer_back slices index r.writer known writer) back.found (proper_back index back.slots r plain back.different)
     ∙ ap Ok (rule_same r (bits_below 32 back.slots) back.whole))
+
+-- ---- the swap
+
+port_back : (index : ℕ) (all : List Entry) (key : List ℕ) (n : ℕ) → are_apart all ≡ true → found key all ≡ number_value (Some n) → n ≤ 0xff00 → required (number (UpTo 0xff00)) (of_entries part.Port index all) key ≡ Ok n
+port_back index all key n apart at le =
+    required_back part.Port index all (number (UpTo 0xff00)) key (Ok n) apart
+    (ap (demanded (number (UpTo 0xff00)) (key_place (of_entries part.Port index all) key)) at ∙ formed_back _ _ n (when_back (is_allowed_number (UpTo 0xff00) n) n (le-leb n 0xff00 le)))
+
+port_text_read : (slices : List Slice) (d : Slice) (index : ℕ) (w : Swap) → w.slice < length slices → IsPlainSwap w → IsSwapInRange w
+    → port_text_in (of_entries part.Port index (swap_entries slices w)) ≡ Ok (record { slice = (get_or slices w.slice d).name; switch = w.switch; shown = w.shown; physical = w.physical })
+unfolding port_text_in
+port_text_read slices d index w lt plain held =
+    let all = swap_entries slices w in
+    let at = of_entries part.Port index all in
+    let name = (get_or slices w.slice d).name in
+    bind_is (known_keys keys.Port at) _ tt _ (known_back keys.Port part.Port index all refl)
+    (bind_is (required (text Any) at (codes "slice")) _ name _ (required_back part.Port index all (text Any) (codes "slice") (Ok name) refl (ap (λ o. demanded (text Any) (key_place at (codes "slice")) (text_value o)) (name_at_back slices w.slice d lt)))
+    (bind_is (optional (numeral Datapath) at (codes "switch")) _ w.switch _ (optional_back part.Port index all (numeral Datapath) (codes "switch") (Ok w.switch) refl (text_back (numeral Datapath) (hex_text 16) (key_place at (codes "switch")) w.switch (switch_allowed w.switch held)))
+    (bind_is (required (number (UpTo 0xff00)) at (codes "shown")) _ w.shown _ (port_back index all (codes "shown") w.shown refl refl plain.shown_limit)
+    (bind_is (required (number (UpTo 0xff00)) at (codes "physical")) _ w.physical _ (port_back index all (codes "physical") w.physical refl refl plain.physical_limit) refl))))
+
+swap_back : (slices : List Slice) (index : ℕ) (w : Swap) → AreNamed slices → w.slice < length slices → IsPlainSwap w → IsSwapInRange w → swap_in slices (of_entries part.Port index (swap_entries slices w)) ≡ Ok w
+swap_back [] index w known lt plain held = absurd (omega (arith, lt))
+swap_back (s ∷ rest) index w known lt plain held =
+    let slices = s ∷ rest in
+    let at = of_entries part.Port index (swap_entries slices w) in
+    let name = (get_or slices w.slice s).name in
+    let said : PortText = record { slice = name; switch = w.switch; shown = w.shown; physical = w.physical } in
+    let small : w.slice % 256 ≡ w.slice = omega (arith, lt, known.few) in
+    let here : port_slot index (slot_named slices name) ≡ Ok w.slice = ap (port_slot index) (slot_back slices w.slice s known.differ lt) ∙ ap Ok small in
+    bind_is (port_text_in at) (swap_from slices index) said _ (port_text_read slices s index w lt plain held) (swap_from_is slices index said w.slice here)
 
 -- ---- all of them
 
@@ -278,3 +314,13 @@ pub record IsPrintable (slices : List Slice) (r : Rule) : Type 0 where
 pub rules_back : (slices : List Slice) (index : ℕ) (rules : List Rule) → AreNamed slices → AllByRecursion (IsPrintable slices) rules → rules_from slices index (items_of (map table_of (map (rule_entries slices) rules))) ≡ Ok rules
 rules_back slices index rules known =
     reads_back (rule_of slices) (rule_entries slices) (IsPrintable slices) (λ at r is. rule_back slices at r known is.plain is.held is.writer is.readers) index rules
+
+-- what holds of a swap that is printed
+pub record IsPrintableSwap (slices : List Slice) (w : Swap) : Type 0 where
+  pub plain : IsPlainSwap w
+  pub held : IsSwapInRange w
+  pub slice : w.slice < length slices
+
+pub swaps_back : (slices : List Slice) (index : ℕ) (swaps : List Swap) → AreNamed slices → AllByRecursion (IsPrintableSwap slices) swaps → swaps_from slices index (items_of (map table_of (map (swap_entries slices) swaps))) ≡ Ok swaps
+swaps_back slices index swaps known =
+    reads_back (swap_of slices) (swap_entries slices) (IsPrintableSwap slices) (λ at w is. swap_back slices at w known is.slice is.plain is.held) index swaps

@@ -2,6 +2,7 @@
 use Rattle.std.proofs.Common.{◌≡◌, Ok, codes, subst}
 use Rattle.of10_model.specs.declared.pattern.Pattern.{Pattern}
 use Rattle.of10_model.proofs.Results.{bind_ok, ok_is}
+use Rattle.policy_text.specs.declared.known_keys.Keys.TheVariants as keys
 use Rattle.policy_text.specs.declared.values.Numbers.TheVariants.{UpTo, InPort, Vlan, Service}
 use Rattle.policy_text.specs.declared.values.Numerals.TheVariants.{Datapath, Hardware}
 use Rattle.policy_text.specs.declared.values.Texts.TheVariants.{Any}
@@ -86,7 +87,7 @@ pub record RuleRead (this : SectionView) (t : RuleText) : Type 0 where
 pub rule_read : (this : SectionView) (t : RuleText) → rule_text_in this ≡ Ok t → RuleRead this t
 unfolding rule_text_in
 rule_read this t e =
-    let k = bind_ok (known_keys this) _ t e in
+    let k = bind_ok (known_keys keys.Rule this) _ t e in
     let a = bind_ok (optional (numeral Datapath) this (codes "switch")) _ t k.2 in
     let b = bind_ok (required (number (UpTo 0xffffffff)) this (codes "priority")) _ t a.2 in
     let c = bind_ok (optional (text Any) this (codes "write")) _ t b.2 in

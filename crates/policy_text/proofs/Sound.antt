@@ -1,4 +1,4 @@
--- The slices and the rules that a text says are plain.
+-- The slices, the rules and the swaps that a text says are plain.
 use Rattle.std.proofs.Common.{◌≡◌, ℕ, suc, ◌≤◌, Bool, true, false, ◌&&◌, cond, leb-true, List, [], ◌∷◌, length, Option, Some, None, IfSome, Ok, codes, unwrap_or, refl, subst, arith}
 use Rattle.std.specs.List.{AllByRecursion}
 use Rattle.std.proofs.lemmas.Bool.{and_parts}
@@ -9,16 +9,21 @@ use Rattle.of10_model.specs.declared.pattern.Pattern.{Pattern}
 use Rattle.flowspace.specs.declared.fault.Field.{Field}
 use Rattle.flowspace.specs.declared.rules.Rule.{Rule}
 use Rattle.flowspace.specs.declared.slices.Slice.{Slice}
+use Rattle.flowspace.specs.declared.swaps.Swap.{Swap}
 use Rattle.flowspace.specs.Policies.{PolicyView}
 use Rattle.flowspace.specs.Rules.{IsPlainRule, first_improper}
-use Rattle.flowspace.specs.Slices.{IsPlainSlice}
+use Rattle.flowspace.specs.Slices.{IsPlainSlice, slot_named}
+use Rattle.flowspace.specs.Swaps.{IsPlainSwap}
 use Rattle.flowspace.proofs.Improper.{plain_rule}
 use Rattle.flowspace.proofs.Naming.{name_parts, controller_parts}
+use Rattle.policy_text.specs.declared.known_keys.Keys.TheVariants as keys
 use Rattle.policy_text.specs.declared.values.Numbers.TheVariants.{UpTo, Between}
-use Rattle.policy_text.specs.declared.values.Texts.TheVariants.{Name, Controller}
-use Rattle.policy_text.specs.Reading.{SectionView, known_keys, required, optional, number, is_text, text, tables, some_tables}
+use Rattle.policy_text.specs.declared.values.Numerals.TheVariants.{Datapath}
+use Rattle.policy_text.specs.declared.values.Texts.TheVariants.{Name, Controller, Any}
+use Rattle.policy_text.specs.Reading.{SectionView, known_keys, required, optional, number, numeral, is_text, text, tables, some_tables}
 use Rattle.policy_text.specs.Slices.{slice_section, slice_of_table, slice_of, slices_from}
 use Rattle.policy_text.specs.Rules.{are_different, bits_below, writer_slot, slots_of, no_improper, proper, RuleText, rule_text_in, rule_from, rule_section, rule_in, rule_of, rules_from}
+use Rattle.policy_text.specs.Ports.{port_section, PortText, port_text_in, port_slot, swap_from, swap_in, swap_of, swaps_from}
 use Rattle.policy_text.specs.Documents.{top, parts_in, parts_of, ArePlain}
 use Rattle.std.proofs.lemmas.Option.{cond_some}
 use Rattle.of10_model.proofs.Results.{bind_ok, bind_is, ok_is}
@@ -49,7 +54,7 @@ quota_read this key o e =
 slice_sound : (this : SectionView) (s : Slice) → slice_of_table this ≡ Ok s → IsPlainSlice s
 unfolding slice_of_table
 slice_sound this s e =
-    let k = bind_ok (known_keys this) _ s e in
+    let k = bind_ok (known_keys keys.Slice this) _ s e in
     let a = bind_ok (required (text Name) this (codes "name")) _ s k.2 in
     let b = bind_ok (required (text Controller) this (codes "controller")) _ s a.2 in
     let c = bind_ok (optional (number (Between 1 1000000)) this (codes "rate")) _ s b.2 in
@@ -141,6 +146,47 @@ rule_of_sound slices index d r = of_tables (λ q. q ≡ Ok r → IsPlainRule r) 
 rules_sound : (slices : List Slice) (index : ℕ) (ds : Items) (rs : List Rule) → rules_from slices index ds ≡ Ok rs → AllByRecursion IsPlainRule rs
 rules_sound slices = reads_sound IsPlainRule (rule_of slices) (rule_of_sound slices)
 
+-- ---- swaps
+
+port_limit : (this : SectionView) (key : List ℕ) (n : ℕ) → required (number (UpTo 0xff00)) this key ≡ Ok n → n ≤ 0xff00
+port_limit this key n e = required_holds (λ n. n ≤ 0xff00) (number (UpTo 0xff00)) (λ d n r. leb-true _ _ (number_is (UpTo 0xff00) d n r)) this key n e
+
+port_text_sound : (this : SectionView) (t : PortText) → port_text_in this ≡ Ok t → (t.shown ≤ 0xff00) × (t.physical ≤ 0xff00)
+unfolding port_text_in
+port_text_sound this t e =
+    let k = bind_ok (known_keys keys.Port this) _ t e in
+    let a = bind_ok (required (text Any) this (codes "slice")) _ t k.2 in
+    let b = bind_ok (optional (numeral Datapath) this (codes "switch")) _ t a.2 in
+    let c = bind_ok (required (number (UpTo 0xff00)) this (codes "shown")) _ t b.2 in
+    let d = bind_ok (required (number (UpTo 0xff00)) this (codes "physical")) _ t c.2 in
+    let made : PortText = record { slice = a.0; switch = b.0; shown = c.0; physical = d.0 } in
+    subst (λ (x : PortText). (x.shown ≤ 0xff00) × (x.physical ≤ 0xff00)) (ok_is made t d.2) (port_limit this (codes "shown") c.0 c.1, port_limit this (codes "physical") d.0 d.1)
+
+-- the swap of what a table says, with its slot
+abbrev pub swap_with : PortText → ℕ → Swap
+swap_with t slot = record { slice = slot; switch = t.switch; shown = t.shown; physical = t.physical }
+
+pub swap_from_is : (slices : List Slice) (index : ℕ) (t : PortText) (slot : ℕ) → port_slot index (slot_named slices t.slice) ≡ Ok slot → swap_from slices index t ≡ Ok (swap_with t slot)
+unfolding swap_from
+swap_from_is slices index t slot e = bind_is (port_slot index (slot_named slices t.slice)) _ slot _ e refl
+
+swap_from_sound : (slices : List Slice) (index : ℕ) (t : PortText) (w : Swap) → (t.shown ≤ 0xff00) × (t.physical ≤ 0xff00) → swap_from slices index t ≡ Ok w → IsPlainSwap w
+unfolding swap_from
+swap_from_sound slices index t w limits e =
+    let a = bind_ok (port_slot index (slot_named slices t.slice)) _ w e in
+    subst IsPlainSwap (ok_is (swap_with t a.0) w a.2) (record { shown_limit = limits.0; physical_limit = limits.1 })
+
+swap_sound : (slices : List Slice) (this : SectionView) (w : Swap) → swap_in slices this ≡ Ok w → IsPlainSwap w
+swap_sound slices this w e =
+    let a = bind_ok (port_text_in this) (swap_from slices this.index) w e in
+    swap_from_sound slices this.index a.0 w (port_text_sound this a.0 a.1) a.2
+
+swap_of_sound : (slices : List Slice) (index : ℕ) (d : Data) (w : Swap) → swap_of slices index d ≡ Ok w → IsPlainSwap w
+swap_of_sound slices index d w = of_tables (λ q. q ≡ Ok w → IsPlainSwap w) _ _ (λ ms. swap_sound slices (port_section index ms) w) (λ e. absurd cc) d
+
+swaps_sound : (slices : List Slice) (index : ℕ) (ds : Items) (ws : List Swap) → swaps_from slices index ds ≡ Ok ws → AllByRecursion IsPlainSwap ws
+swaps_sound slices = reads_sound IsPlainSwap (swap_of slices) (swap_of_sound slices)
+
 -- ---- the whole
 
 tables_some : (d : Data) (items : Items) → some_tables d ≡ Some items → has_items items ≡ true
@@ -154,23 +200,26 @@ tables_some (boolean x) items e = absurd cc
 tables_some (datetime x) items e = absurd cc
 tables_some (table x) items e = absurd cc
 
-pub parts_sound : (this : SectionView) (p : PolicyView) → parts_in this ≡ Ok p → ArePlain p
+pub parts_sound : (highest : ℕ) (this : SectionView) (p : PolicyView) → parts_in highest this ≡ Ok p → ArePlain p
 unfolding parts_in
-parts_sound this p e =
-    let a = bind_ok (required (number (Between 1 1)) this (codes "version")) _ p e in
-    let k = bind_ok (known_keys this) _ p a.2 in
+parts_sound highest this p e =
+    let a = bind_ok (required (number (Between 1 highest)) this (codes "version")) _ p e in
+    let k = bind_ok (known_keys (keys.Top a.0) this) _ p a.2 in
     let b = bind_ok (required some_tables this (codes "slice")) _ p k.2 in
     let c = bind_ok (optional tables this (codes "rule")) _ p b.2 in
-    let d = bind_ok (slices_from 0 b.0) _ p c.2 in
+    let h = bind_ok (optional tables this (codes "port")) _ p c.2 in
+    let d = bind_ok (slices_from 0 b.0) _ p h.2 in
     let f = bind_ok (rules_from d.0 0 (unwrap_or c.0 no_items)) _ p d.2 in
-    let made : PolicyView = record { slices = d.0; rules = f.0; swaps = [] } in
+    let g = bind_ok (swaps_from d.0 0 (unwrap_or h.0 no_items)) _ p f.2 in
+    let made : PolicyView = record { slices = d.0; rules = f.0; swaps = g.0 } in
     let some = required_holds (λ items. has_items items ≡ true) some_tables tables_some this (codes "slice") b.0 b.1 in
-    subst ArePlain (ok_is made p f.2) (record {
+    subst ArePlain (ok_is made p g.2) (record {
       some_slice = some_slices 0 b.0 d.0 some d.1;
       slices = All-from_recursion IsPlainSlice d.0 (slices_sound 0 b.0 d.0 d.1);
       rules = All-from_recursion IsPlainRule f.0 (rules_sound d.0 0 (unwrap_or c.0 no_items) f.0 f.1);
+      swaps = All-from_recursion IsPlainSwap g.0 (swaps_sound d.0 0 (unwrap_or h.0 no_items) g.0 g.1);
     })
 
-pub document_sound : (document : Option Members) (p : PolicyView) → parts_of document ≡ Ok p → ArePlain p
-document_sound None p e = absurd cc
-document_sound (Some ms) p e = parts_sound (top ms) p e
+pub document_sound : (highest : ℕ) (document : Option Members) (p : PolicyView) → parts_of highest document ≡ Ok p → ArePlain p
+document_sound highest None p e = absurd cc
+document_sound highest (Some ms) p e = parts_sound highest (top ms) p e

@@ -8,7 +8,7 @@ use Rattle.policy_text.specs.declared.values.Texts.{Texts}
 use Rattle.of10_model.proofs.Results.{bind_ok, ok_is}
 use Rattle.policy_text.specs.Reading.{SectionView, key_place, value_formed, demanded, allowed, required, optional, is_allowed_number, number, is_text, text}
 
-formed_some : {A : Type 0} (at : Place) (o : Option A) (x : A) → value_formed at o ≡ Ok x → o ≡ Some x
+pub formed_some : {A : Type 0} (at : Place) (o : Option A) (x : A) → value_formed at o ≡ Ok x → o ≡ Some x
 formed_some at None x e = absurd cc
 formed_some at (Some y) x e = ap Some (ok_is y x e)
 

@@ -4,7 +4,8 @@ use Rattle.std.specs.Ordering.{nat_cmp, is_lt}
 use Rattle.std.specs.Cmp.Lexicographic.{slice_cmp}
 use Rattle.toml.specs.Data.{Data, Members, no_members, member}
 use Rattle.policy_text.specs.declared.fault.Part.{Part}
-use Rattle.policy_text.specs.declared.fault.Part.TheVariants.{Top, Slice, Rule}
+use Rattle.policy_text.specs.declared.fault.Part.TheVariants.{Top, Slice, Rule, Port}
+use Rattle.policy_text.specs.declared.known_keys.Keys.{Keys}
 use Rattle.policy_text.specs.declared.values.Numbers.TheVariants as numbers
 use Rattle.policy_text.specs.declared.values.Numbers.TheVariants.{UpTo, Between, Vlan, Service}
 use Rattle.policy_text.specs.declared.values.Numerals.TheVariants.{Datapath, Hardware}
@@ -19,14 +20,14 @@ IsKey no_members key = ⊥
 IsKey (member k d rest) key = (k ≡ key) ⊎ IsKey rest key
 
 -- each key is one that such a table may have
-abbrev pub AreKnown : Part → Members → Type 0
-AreKnown part members = (key : List ℕ) → IsKey members key → is_known_key part key ≡ true
+abbrev pub AreKnown : Keys → Members → Type 0
+AreKnown kind members = (key : List ℕ) → IsKey members key → is_known_key kind key ≡ true
 
 -- a key that such a table may not have, and no such key is below it, byte by byte
-pub record IsLeastUnknown (part : Part) (members : Members) (key : List ℕ) : Type 0 where
+pub record IsLeastUnknown (kind : Keys) (members : Members) (key : List ℕ) : Type 0 where
   pub is_there : IsKey members key
-  pub unknown : is_known_key part key ≡ false
-  pub least : (other : List ℕ) → IsKey members other → is_known_key part other ≡ false → is_lt (slice_cmp nat_cmp other key) ≡ false
+  pub unknown : is_known_key kind key ≡ false
+  pub least : (other : List ℕ) → IsKey members other → is_known_key kind other ≡ false → is_lt (slice_cmp nat_cmp other key) ≡ false
 
 -- ---- keys that are needed, and forms
 
@@ -35,11 +36,12 @@ abbrev pub is_needed : Part → List ℕ → Bool
 is_needed Top key = bytes_eq key (codes "version") || bytes_eq key (codes "slice")
 is_needed Slice key = bytes_eq key (codes "name") || bytes_eq key (codes "controller")
 is_needed Rule key = bytes_eq key (codes "priority")
+is_needed Port key = bytes_eq key (codes "slice") || bytes_eq key (codes "shown") || bytes_eq key (codes "physical")
 
 -- a value of the form that the whole text has under a key
 abbrev pub has_top_form : List ℕ → Data → Bool
 has_top_form key d =
-    if bytes_eq key (codes "version") then is_some (number (Between 1 1) d)
+    if bytes_eq key (codes "version") then is_some (number (Between 1 2) d)
     else if bytes_eq key (codes "slice") then is_some (some_tables d)
     else is_some (tables d)
 
@@ -72,8 +74,16 @@ has_rule_form key d =
     else if bytes_eq key (codes "read") then is_some (text_list d)
     else has_match_form key d
 
+-- a value of the form that a port table has under a key
+abbrev pub has_port_form : List ℕ → Data → Bool
+has_port_form key d =
+    if bytes_eq key (codes "slice") then is_some (text Any d)
+    else if bytes_eq key (codes "switch") then is_some (numeral Datapath d)
+    else is_some (number (UpTo 0xff00) d)
+
 -- a value of the form that such a table has under a key
 abbrev pub has_form : Part → List ℕ → Data → Bool
 has_form Top key d = has_top_form key d
 has_form Slice key d = has_slice_form key d
 has_form Rule key d = has_rule_form key d
+has_form Port key d = has_port_form key d

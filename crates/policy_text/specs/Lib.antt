@@ -2,6 +2,7 @@ pub mod Places
 pub mod Reading
 pub mod Slices
 pub mod Rules
+pub mod Ports
 pub mod Documents
 pub mod Views
 pub mod Printing

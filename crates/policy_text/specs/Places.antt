@@ -3,14 +3,15 @@ use Rattle.std.specs.Prelude.{ℕ, List, [], ◌++◌, codes, decimal}
 use Rattle.flowspace.specs.declared.fault.Field.{Field}
 use Rattle.flowspace.specs.declared.fault.Field.TheVariants.{Read, InPort, DlSrc, DlDst, DlVlan, DlVlanPcp, DlType, NwTos, NwProto, NwSrc, NwDst, TpSrc, TpDst}
 use Rattle.policy_text.specs.declared.fault.Part.{Part}
-use Rattle.policy_text.specs.declared.fault.Part.TheVariants.{Top, Slice, Rule}
+use Rattle.policy_text.specs.declared.fault.Part.TheVariants.{Top, Slice, Rule, Port}
 use Rattle.policy_text.specs.declared.fault.Place.{Place}
 
--- which slice or which rule: `slice.0.`, `rule.3.`, and nothing for the whole text
+-- which slice, rule or port table: `slice.0.`, `rule.3.`, `port.1.`, and nothing for the whole text
 abbrev pub part_text : Part → ℕ → List ℕ
 part_text Top index = []
 part_text Slice index = (codes "slice." ++ decimal index) ++ codes "."
 part_text Rule index = (codes "rule." ++ decimal index) ++ codes "."
+part_text Port index = (codes "port." ++ decimal index) ++ codes "."
 
 -- the key behind it
 abbrev pub key_path_text : Place → List ℕ

@@ -9,6 +9,7 @@ use Rattle.of10_model.specs.Normal.{IsNormal}
 use Rattle.address_text.specs.Texts.{hex_text, hardware_text, prefix_text}
 use Rattle.flowspace.specs.declared.rules.Rule.{Rule}
 use Rattle.flowspace.specs.declared.slices.Slice.{Slice}
+use Rattle.flowspace.specs.declared.swaps.Swap.{Swap}
 use Rattle.flowspace.specs.Policies.{PolicyView}
 
 -- ---- fields
@@ -69,6 +70,12 @@ network_entries m =
     ∷ (codes "nw_src", text_value (option_map prefix_text m.nw_src)) ∷ (codes "nw_dst", text_value (option_map prefix_text m.nw_dst))
     ∷ (codes "tp_src", number_value m.tp_src) ∷ (codes "tp_dst", number_value m.tp_dst) ∷ []
 
+-- a port table's keys; its slice stands there by name
+abbrev pub swap_entries : List Slice → Swap → List Entry
+swap_entries slices w =
+    (codes "slice", text_value (slice_name slices w.slice)) ∷ (codes "switch", text_value (option_map (hex_text 16) w.switch))
+    ∷ (codes "shown", Some (integer (pos w.shown))) ∷ (codes "physical", Some (integer (pos w.physical))) ∷ []
+
 -- ---- the text
 
 -- a value on the right of `=`: a number, a text, or an array of texts on one line
@@ -111,12 +118,35 @@ abbrev pub rules_text : List Slice → List Rule → List ℕ
 rules_text slices [] = []
 rules_text slices (r ∷ rest) = rule_text slices r ++ rules_text slices rest
 
--- the version, the slices, and the rules in file order
+-- a swap's table, under its header
+unfoldable pub swap_text : List Slice → Swap → List ℕ
+swap_text slices w = codes "\n[[port]]\n" ++ entries_text (swap_entries slices w)
+
+-- the tables of the swaps in turn
+abbrev pub swaps_text : List Slice → List Swap → List ℕ
+swaps_text slices [] = []
+swaps_text slices (w ∷ rest) = swap_text slices w ++ swaps_text slices rest
+
+-- the lowest version of a text that has these swaps
+abbrev pub needed_version : List Swap → ℕ
+needed_version [] = 1
+needed_version (w ∷ rest) = 2
+
+-- the line of the version
+abbrev pub version_text : List Swap → List ℕ
+version_text [] = codes "version = 1\n"
+version_text (w ∷ rest) = codes "version = 2\n"
+
+-- the version, the slices, and the rules and the swaps in file order
 unfoldable pub text_of : PolicyView → List ℕ
-text_of p = codes "version = 1\n" ++ (slices_text p.slices ++ rules_text p.slices p.rules)
+text_of p = version_text p.swaps ++ (slices_text p.slices ++ (rules_text p.slices p.rules ++ swaps_text p.slices p.swaps))
 
 -- what holds of each rule beside being plain: its match is normal, and its numbers have 64 and 32 bits
 pub record IsRuleInRange (r : Rule) : Type 0 where
   pub normal : IsNormal r.pattern
   pub switch : IfSome r.switch (λ n. n < 2 ^ 64)
   pub priority : r.priority < 2 ^ 32
+
+-- the number of a swap's switch has 64 bits
+abbrev pub IsSwapInRange : Swap → Type 0
+IsSwapInRange w = IfSome w.switch (λ n. n < 2 ^ 64)

@@ -12,10 +12,12 @@ use Rattle.of10_model.specs.declared.pattern.Prefix.{Prefix}
 use Rattle.of10_model.specs.Results.{◌>>=◌, Answers}
 use Rattle.address_text.specs.Addresses.{datapath_id, hardware_address, prefix}
 use Rattle.policy_text.specs.declared.fault.Part.{Part}
-use Rattle.policy_text.specs.declared.fault.Part.TheVariants.{Top, Slice, Rule}
+use Rattle.policy_text.specs.declared.fault.Part.TheVariants.{Top}
 use Rattle.policy_text.specs.declared.fault.Place.{Place}
 use Rattle.policy_text.specs.declared.fault.ReadFault.{ReadFault}
 use Rattle.policy_text.specs.declared.fault.ReadFault.TheVariants.{NotToml, Missing, BadValue, UnknownKey, Improper, Refused, Memory}
+use Rattle.policy_text.specs.declared.known_keys.Keys.{Keys}
+use Rattle.policy_text.specs.declared.known_keys.Keys.TheVariants as keys
 use Rattle.policy_text.specs.declared.values.Numbers.{Numbers}
 use Rattle.policy_text.specs.declared.values.Numbers.TheVariants.{UpTo, Between, InPort, Vlan, Service}
 use Rattle.policy_text.specs.declared.values.Numerals.{Numerals}
@@ -49,9 +51,10 @@ pub record SectionView : Type 0 where
 abbrev pub key_place : SectionView → List ℕ → Place
 key_place this key = record { part = this.part; index = this.index; key = key }
 
--- the keys of the whole text's table
-abbrev pub is_top_key : List ℕ → Bool
-is_top_key key = bytes_eq key (codes "version") || bytes_eq key (codes "slice") || bytes_eq key (codes "rule")
+-- the keys of the whole text's table, in a text of this version
+abbrev pub is_top_key : ℕ → List ℕ → Bool
+is_top_key version key =
+    bytes_eq key (codes "version") || bytes_eq key (codes "slice") || bytes_eq key (codes "rule") || (nat_le 2 version && bytes_eq key (codes "port"))
 
 -- the keys of a slice's table
 abbrev pub is_slice_key : List ℕ → Bool
@@ -77,16 +80,21 @@ is_rule_key key =
     bytes_eq key (codes "switch") || bytes_eq key (codes "priority") || bytes_eq key (codes "write") || bytes_eq key (codes "read")
     || is_link_key key || is_network_key key
 
+-- the keys of a port table
+abbrev pub is_port_key : List ℕ → Bool
+is_port_key key = bytes_eq key (codes "slice") || bytes_eq key (codes "switch") || bytes_eq key (codes "shown") || bytes_eq key (codes "physical")
+
 -- a key that such a table may have
-abbrev pub is_known_key : Part → List ℕ → Bool
-is_known_key Top key = is_top_key key
-is_known_key Slice key = is_slice_key key
-is_known_key Rule key = is_rule_key key
+abbrev pub is_known_key : Keys → List ℕ → Bool
+is_known_key (keys.Top version) key = is_top_key version key
+is_known_key keys.Slice key = is_slice_key key
+is_known_key keys.Rule key = is_rule_key key
+is_known_key keys.Port key = is_port_key key
 
 -- the keys that such a table may not have
-abbrev pub unknown_keys : Part → Members → List (List ℕ)
-unknown_keys part no_members = []
-unknown_keys part (member key d rest) = if is_known_key part key then unknown_keys part rest else key ∷ unknown_keys part rest
+abbrev pub unknown_keys : Keys → Members → List (List ℕ)
+unknown_keys kind no_members = []
+unknown_keys kind (member key d rest) = if is_known_key kind key then unknown_keys kind rest else key ∷ unknown_keys kind rest
 
 -- the lesser of two texts, byte by byte
 abbrev pub lesser_text : List ℕ → Option (List ℕ) → List ℕ
@@ -103,9 +111,9 @@ abbrev pub no_unknown : SectionView → Option (List ℕ) → Result (Unit {0}) 
 no_unknown this None = Ok tt
 no_unknown this (Some key) = Err (UnknownKey (key_place this key))
 
--- the least unknown key of a table is at fault
-abbrev pub known_keys : SectionView → Result (Unit {0}) ReadFault
-known_keys this = no_unknown this (least_text (unknown_keys this.part this.members))
+-- the least key that such a table may not have is at fault
+abbrev pub known_keys : Keys → SectionView → Result (Unit {0}) ReadFault
+known_keys kind this = no_unknown this (least_text (unknown_keys kind this.members))
 
 -- ---- values under keys
 

@@ -14,6 +14,7 @@ use Rattle.flowspace.specs.Slices.{slot_named}
 use Rattle.policy_text.specs.declared.fault.Part.TheVariants as part
 use Rattle.policy_text.specs.declared.fault.ReadFault.{ReadFault}
 use Rattle.policy_text.specs.declared.fault.ReadFault.TheVariants.{Improper, Refused}
+use Rattle.policy_text.specs.declared.known_keys.Keys.TheVariants as keys
 use Rattle.policy_text.specs.declared.values.Numbers.TheVariants.{UpTo, InPort, Vlan, Service}
 use Rattle.policy_text.specs.declared.values.Numerals.TheVariants.{Datapath, Hardware}
 use Rattle.policy_text.specs.declared.values.Texts.TheVariants.{Any}
@@ -132,7 +133,7 @@ pub record RuleText : Type 0 where
 -- what a table says, key by key
 unfoldable pub rule_text_in : SectionView → Result RuleText ReadFault
 rule_text_in this = do
-  known ← known_keys this
+  known ← known_keys keys.Rule this
   switch ← optional (numeral Datapath) this (codes "switch")
   priority ← required (number (UpTo 0xffffffff)) this (codes "priority")
   write ← optional (text Any) this (codes "write")

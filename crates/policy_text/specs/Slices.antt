@@ -4,6 +4,7 @@ use Rattle.toml.specs.Data.{Data, Items, Members}
 use Rattle.flowspace.specs.declared.slices.Slice.{Slice}
 use Rattle.policy_text.specs.declared.fault.Part.TheVariants as part
 use Rattle.policy_text.specs.declared.fault.ReadFault.{ReadFault}
+use Rattle.policy_text.specs.declared.known_keys.Keys.TheVariants as keys
 use Rattle.policy_text.specs.declared.values.Numbers.TheVariants.{UpTo, Between}
 use Rattle.policy_text.specs.declared.values.Texts.TheVariants.{Name, Controller}
 use Rattle.of10_model.specs.Results.{◌>>=◌}
@@ -16,7 +17,7 @@ slice_section index members = record { part = part.Slice; index = index; members
 -- the slice of a table
 unfoldable pub slice_of_table : SectionView → Result Slice ReadFault
 slice_of_table this = do
-  known ← known_keys this
+  known ← known_keys keys.Slice this
   name ← required (text Name) this (codes "name")
   controller ← required (text Controller) this (codes "controller")
   rate ← optional (number (Between 1 1000000)) this (codes "rate")

@@ -15,18 +15,19 @@ pub enum Part {
     Top,
     Slice,
     Rule,
+    Port,
 }
 
 /// A key of a table in a policy text.
 #[derive(Drop)]
 pub struct Place {
     pub part: Part,
-    /// Which slice or rule it is, from 0; 0 for the whole text.
+    /// Which slice, rule or port table it is, from 0; 0 for the whole text.
     pub index: u64,
     pub key: Text,
 }
 
-/// `version`, `slice.0.name`, `rule.3.nw_src`.
+/// `version`, `slice.0.name`, `rule.3.nw_src`, `port.0.shown`.
 impl fmt::Display for Place {
     ghost output = { λ place. Some (key_path_text place) };
 
@@ -37,6 +38,7 @@ impl fmt::Display for Place {
             Part::Top => write!(f, "{key}"),
             Part::Slice => write!(f, "slice.{index}.{key}"),
             Part::Rule => write!(f, "rule.{index}.{key}"),
+            Part::Port => write!(f, "port.{index}.{key}"),
         }
     }
 }

@@ -1,8 +1,9 @@
-//! The slices that a rule names.
+//! The slices that rules and port tables name.
 
 ghost use Rattle.std.specs.Prelude.{◌≡◌, IfOk, map, nat_eq, option_map};
 ghost use Rattle.std.specs.List.{list_any};
 ghost use Rattle.policy_text.specs.Reading.{GivesAsText};
+ghost use Rattle.policy_text.specs.Ports.{port_slot};
 ghost use Rattle.policy_text.specs.Rules.{are_different, bits_below, known_slot, slots_of, writer_slot};
 ghost use Rattle.flowspace.specs.Slices.{slot_named};
 
@@ -79,6 +80,16 @@ pub fn writer<'a>(
             let slot = named_slot(names, index, name)?;
             Ok(Some((slot % 256) as u8))
         }
+    }
+}
+
+/// The slot that port table `index` names.
+pub fn port_slot<'a>(names: &Names<'a>, index: u64, name: &'a str) -> Result<u8, ReadFault>
+    ensures { GivesAsText (λ slot. slot) result (port_slot index (slot_named names.now name.now)) }
+{
+    match names.slot_named(name) {
+        Some(slot) => Ok((slot % 256) as u8),
+        None => Err(ReadFault::Refused(PolicyFault::UnknownPortSlice(index))),
     }
 }
 

@@ -1,6 +1,6 @@
 //! Printing a policy.
 
-ghost use Rattle.std.specs.Prelude.{[], ◌≡◌, false, ◌++◌, ◌<◌, ◌^◌, Ok, Some, IfOk, IfSome, OnOk, map, option_and_then, option_map, string_bytes};
+ghost use Rattle.std.specs.Prelude.{ℕ, ◌≡◌, ◌≤◌, false, ◌++◌, ◌<◌, ◌^◌, length, Ok, Some, IfOk, IfSome, OnOk, map, option_and_then, option_map, string_bytes};
 ghost use Rattle.toml.specs.Data.{string};
 ghost use Rattle.toml.specs.View.{items_of};
 ghost use Rattle.toml_writer.specs.Text.{string_text};
@@ -8,12 +8,13 @@ ghost use Rattle.std.specs.List.{AllByRecursion};
 ghost use Rattle.address_text.specs.Texts.{hardware_text, hex_text, prefix_text};
 ghost use Rattle.of10_model.specs.Normal.{bit};
 ghost use Rattle.flowspace.specs.Policies.{IsPolicy};
-ghost use Rattle.policy_text.specs.Documents.{document_of, policy_of};
-ghost use Rattle.policy_text.specs.Printing.{IsRuleInRange, entries_text, entry_text, items_text, link_entries, slice_name, names_array, names_in, network_entries, number_value, entries_beside, rule_text, rules_text, slice_text, slices_text, text_of, text_value, unless_default};
+ghost use Rattle.flowspace.specs.Swaps.{AreSwaps};
+ghost use Rattle.policy_text.specs.Documents.{document_of, policy_up_to};
+ghost use Rattle.policy_text.specs.Printing.{IsRuleInRange, IsSwapInRange, entries_text, entry_text, items_text, link_entries, slice_name, names_array, names_in, needed_version, network_entries, number_value, entries_beside, rule_text, rules_text, slice_text, slices_text, swap_text, swaps_text, text_of, text_value, unless_default, version_text};
 
 use crate::slices::{BURST, QUOTA, RATE};
 use address_text::{datapath_text, hardware_text, prefix_text};
-use flowspace::{Policy, Rule, Slice, has_slot};
+use flowspace::{Policy, Rule, Slice, Swap, has_slot};
 use of10_action::Bytes;
 use of10_model::{Pattern, Prefix};
 use std::alloc::{AllocError, Global};
@@ -282,24 +283,72 @@ fn put_rules(
     Ok(())
 }
 
+#[tactic(auto, unfolding(crate::specs::Printing::swap_text))]
+fn put_swap(
+    out: &mut String,
+    alloc: Global,
+    slices: &[Slice],
+    swap: &Swap,
+) -> Result<(), AllocError>
+    ensures text { OnOk result (string_bytes out.new ≡ string_bytes out.old ++ swap_text slices.now swap.now) }
+    ensures held { OnOk result (IsSwapInRange swap.now) }
+{
+    out.push_str("\n[[port]]\n")?;
+    put_text(out, "slice", name_at(slices, Some(swap.slice)))?;
+    put_datapath(out, alloc, "switch", swap.switch)?;
+    put_number16(out, "shown", Some(swap.shown))?;
+    put_number16(out, "physical", Some(swap.physical))?;
+    Ok(())
+}
+
+fn put_swaps(
+    out: &mut String,
+    alloc: Global,
+    slices: &[Slice],
+    swaps: &[Swap],
+) -> Result<(), AllocError>
+    ensures text { OnOk result (string_bytes out.new ≡ string_bytes out.old ++ swaps_text slices.now swaps.now) }
+    ensures held { OnOk result (AllByRecursion IsSwapInRange swaps.now) }
+{
+    let mut rest = swaps;
+    while let [swap, after @ ..] = rest {
+        put_swap(out, alloc, slices, swap)?;
+        rest = after;
+    }
+    Ok(())
+}
+
+fn version_line(swaps: &[Swap]) -> &'static str
+    ensures { result.now ≡ version_text swaps.now }
+{
+    if swaps.is_empty() {
+        "version = 1\n"
+    } else {
+        "version = 2\n"
+    }
+}
+
 #[tactic(auto, unfolding(crate::specs::Printing::text_of))]
 fn text_of(alloc: Global, policy: &Policy) -> Result<String, AllocError>
     ensures text { IfOk result (λ s. string_bytes s ≡ text_of policy.now) }
     ensures held { IfOk result (λ _. AllByRecursion IsRuleInRange policy.now.rules) }
+    ensures swaps_held { IfOk result (λ _. AllByRecursion IsSwapInRange policy.now.swaps) }
     ensures policy { IfOk result (λ _. IsPolicy policy.now.slices policy.now.rules) }
+    ensures swaps { IfOk result (λ _. AreSwaps (length policy.now.slices) policy.now.swaps) }
 {
-    let mut text = String::from_str(alloc, "version = 1\n")?;
+    let mut text = String::from_str(alloc, version_line(policy.swaps()))?;
     put_slices(&mut text, policy.slices())?;
     put_rules(&mut text, alloc, policy.slices(), policy.rules())?;
+    put_swaps(&mut text, alloc, policy.slices(), policy.swaps())?;
     Ok(text)
 }
 
-/// A text of the policy's slices and rules, which is read as the policy without its swaps. It has the
-/// version, the slices, and the rules in file order; the fields of each stand in one order, and those with
-/// their default are left out.
+/// A text that is read as the policy, of version 1 where the policy has no swaps, else of version 2. It
+/// has the version, the slices, and the rules and the swaps in file order; the fields of each stand in one
+/// order, and those with their default are left out.
 pub fn print(alloc: Global, policy: &Policy) -> Result<Bytes, AllocError>
     ensures text { IfOk result (λ b. b ≡ text_of policy.now) }
-    ensures read_again { IfOk result (λ b. policy_of (document_of b) ≡ Ok (record policy.now { swaps = [] })) }
+    ensures read_again { IfOk result (λ b. (highest : ℕ) → needed_version policy.now.swaps ≤ highest → policy_up_to highest (document_of b) ≡ Ok policy.now) }
 {
     let text = text_of(alloc, policy)?;
     Ok(Bytes::from_vec(text.into_bytes()))

@@ -8,6 +8,7 @@ ghost use Rattle.policy_text.specs.Rules.{names_under, proper, rule_from, rule_i
 ghost use Rattle.policy_text.specs.Views.{rule_text_view, section};
 
 use crate::fault::{Part, ReadFault};
+use crate::known_keys::Keys;
 use crate::names::{Names, are_different, bits, slots, writer};
 use crate::pattern::pattern_in;
 use crate::section::Section;
@@ -41,7 +42,7 @@ fn names_under<'a>(table: &Section<'a>, key: &str) -> Result<Vec<&'a str>, ReadF
 fn rule_text_in<'a>(table: &Section<'a>) -> Result<RuleText<'a>, ReadFault>
     ensures { GivesAsText rule_text_view result (rule_text_in (section table.now)) }
 {
-    table.known_keys()?;
+    table.known_keys(Keys::Rule)?;
     let switch = table.numeral(Numerals::Datapath, "switch")?;
     let priority = table.required_number(Numbers::UpTo(0xffff_ffff), "priority")?;
     let write = table.text(Texts::Any, "write")?;

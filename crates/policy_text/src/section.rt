@@ -3,10 +3,11 @@
 ghost use Rattle.std.specs.Prelude.{◌≡◌, ◌<◌, ◌≤◌, ◌^◌, ◌⊎◌, Some, None, IfOk, IfErr, IfSome, map, option_map};
 ghost use Rattle.toml.specs.Data.{as_table, get_member};
 ghost use Rattle.toml.specs.View.{items_view, view, table_view};
-ghost use Rattle.policy_text.specs.Reading.{GivesAsText, addresses, greatest, is_known_key, is_link_key, is_network_key, known_keys, least_text, number, numeral, optional, key_place, required, some_tables, tables, text, text_list, unknown_keys};
+ghost use Rattle.policy_text.specs.Reading.{GivesAsText, addresses, greatest, known_keys, number, numeral, optional, key_place, required, some_tables, tables, text, text_list};
 ghost use Rattle.policy_text.specs.Views.{section};
 
 use crate::fault::{Part, Place, ReadFault};
+use crate::known_keys::{Keys, least_unknown};
 use crate::values::{
     Numbers, Numerals, Texts, addresses, number, numeral, some_tables, tables, text, text_list,
 };
@@ -28,62 +29,6 @@ fn member_of<'a>(table: &'a Table, key: &str) -> Option<&'a Value>
     ensures { option_map (λ v. view v.now) result ≡ get_member key.now (table_view table.now) }
 {
     table.get(key)
-}
-
-fn is_link_key(key: &str) -> bool
-    ensures { result ≡ is_link_key key.now }
-{
-    key == "in_port"
-        || key == "dl_src"
-        || key == "dl_dst"
-        || key == "dl_vlan"
-        || key == "dl_vlan_pcp"
-        || key == "dl_type"
-}
-
-fn is_network_key(key: &str) -> bool
-    ensures { result ≡ is_network_key key.now }
-{
-    key == "nw_tos"
-        || key == "nw_proto"
-        || key == "nw_src"
-        || key == "nw_dst"
-        || key == "tp_src"
-        || key == "tp_dst"
-}
-
-fn is_known(part: Part, key: &str) -> bool
-    ensures { result ≡ is_known_key part key.now }
-{
-    match part {
-        Part::Top => key == "version" || key == "slice" || key == "rule",
-        Part::Slice => {
-            key == "name"
-                || key == "controller"
-                || key == "rate"
-                || key == "burst"
-                || key == "quota"
-        }
-        Part::Rule => {
-            key == "switch"
-                || key == "priority"
-                || key == "write"
-                || key == "read"
-                || is_link_key(key)
-                || is_network_key(key)
-        }
-    }
-}
-
-fn least_unknown(part: Part, table: &Table) -> Option<&str>
-    ensures { option_map (λ key. key.now) result ≡ least_text (unknown_keys part (table_view table.now)) }
-{
-    for (key, _value) in table.iter() {
-        if !is_known(part, key.as_str()) {
-            return Some(key.as_str());
-        }
-    }
-    None
 }
 
 impl<'a> Section<'a> {
@@ -125,10 +70,10 @@ impl<'a> Section<'a> {
     }
 
     /// Refuses the least key that such a table may not have.
-    pub fn known_keys(&self) -> Result<(), ReadFault>
-        ensures { GivesAsText (λ u. u) result (known_keys (section self.now)) }
+    pub fn known_keys(&self, keys: Keys) -> Result<(), ReadFault>
+        ensures { GivesAsText (λ u. u) result (known_keys keys (section self.now)) }
     {
-        match least_unknown(self.part, self.table) {
+        match least_unknown(keys, self.table) {
             Some(key) => Err(ReadFault::UnknownKey(self.place(key)?)),
             None => Ok(()),
         }
@@ -184,6 +129,14 @@ impl<'a> Section<'a> {
             None => Ok(None),
             Some(n) => Ok(Some(n as u16)),
         }
+    }
+
+    /// The number of 16 bits under a key that must be there.
+    pub fn required_number16(&self, numbers: Numbers, key: &str) -> Result<u16, ReadFault>
+        requires { greatest numbers < 2 ^ 16 }
+        ensures { GivesAsText (λ n. n) result (required (number numbers) (section self.now) key.now) }
+    {
+        Ok(self.required_number(numbers, key)? as u16)
     }
 
     /// The number of 8 bits under a key.

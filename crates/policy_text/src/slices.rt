@@ -6,6 +6,7 @@ ghost use Rattle.policy_text.specs.Slices.{slice_of_table, slice_of, slices_from
 ghost use Rattle.policy_text.specs.Views.{section};
 
 use crate::fault::{Part, ReadFault};
+use crate::known_keys::Keys;
 use crate::section::Section;
 use crate::values::{Numbers, Texts};
 use flowspace::{Slice, Text, limits};
@@ -23,7 +24,7 @@ pub const QUOTA: u32 = 1024;
 fn slice_in(table: &Section<'_>) -> Result<Slice, ReadFault>
     ensures { GivesAsText (λ s. s) result (slice_of_table (section table.now)) }
 {
-    table.known_keys()?;
+    table.known_keys(Keys::Slice)?;
     let name = table.required_text(Texts::Name, "name")?;
     let controller = table.required_text(Texts::Controller, "controller")?;
     let rate = table.number(Numbers::Between(1, limits::RATE), "rate")?;

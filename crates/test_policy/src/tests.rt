@@ -1,6 +1,7 @@
 mod divisions;
 mod given;
 mod policies;
+mod ports;
 mod questions;
 mod swaps;
 mod texts;

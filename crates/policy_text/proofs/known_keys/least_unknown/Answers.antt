@@ -3,7 +3,7 @@ use Rattle.std.proofs.lemmas.Grind.{common_steps}
 use Rattle.std.specs.List.Sorted.{IsStrictlySortedBy}
 use Rattle.policy_text.specs.Reading.{is_known_key, least_text}
 use Rattle.policy_text.proofs.LeastKey.{least_first}
-use Rattle.policy_text.proofs.section.least_unknown.Goals as goal
+use Rattle.policy_text.proofs.known_keys.least_unknown.Goals as goal
 
 pub loop-key-init : goal.loop-key-init
 loop-key-init c =
@@ -15,7 +15,7 @@ unfolding IsStrictlySortedBy
 loop-key-preserved c =
     let left : c.loop-key.key-iterator ≡ (c.in-Some.key.now, c.in-Some._value.now) ∷ c.next.new.self = grind (arith, common_steps) in
     let sorted = rw left at c.loop-key.invariant.0 in
-    let known : is_known_key c.args.part (string_bytes c.in-Some.key.now) ≡ true = grind (arith, common_steps) in
+    let known : is_known_key c.args.keys (string_bytes c.in-Some.key.now) ≡ true = grind (arith, common_steps) in
     (sorted.1, rw known at (rw left at c.loop-key.invariant.1))
 
 pub returns-then-not-is_known : goal.returns-then-not-is_known
@@ -23,9 +23,9 @@ unfolding IsStrictlySortedBy
 returns-then-not-is_known c =
     let left : c.loop-key.key-iterator ≡ (c.in-Some.key.now, c.in-Some._value.now) ∷ c.next.new.self = grind (arith, common_steps) in
     let sorted = rw left at c.loop-key.invariant.0 in
-    let unknown : is_known_key c.args.part (string_bytes c.in-Some.key.now) ≡ false = grind (arith, common_steps) in
+    let unknown : is_known_key c.args.keys (string_bytes c.in-Some.key.now) ≡ false = grind (arith, common_steps) in
     let all = rw unknown at (rw left at c.loop-key.invariant.1) in
-    rw c.as_str-then-not-is_known.ensures.value (sym (ap least_text (sym all) ∙ least_first c.args.part c.in-Some.key.now c.next.new.self sorted.0))
+    rw c.as_str-then-not-is_known.ensures.value (sym (ap least_text (sym all) ∙ least_first c.args.keys c.in-Some.key.now c.next.new.self sorted.0))
 
 pub returns : goal.returns
 returns c =
