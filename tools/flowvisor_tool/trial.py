@@ -47,7 +47,7 @@ class Trial:
 
     @functools.cached_property
     def settings(self):
-        return settings_of(self.site.plain, self.slot, self.site.plain.on_switch(self.site.datapath))
+        return settings_of(self.site.plain, self.slot, self.site.plain.on_switch(self.site.datapath), self.site.datapath)
 
     @functools.cached_property
     def writes(self):

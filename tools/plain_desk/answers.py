@@ -68,7 +68,7 @@ def fault_answer(view, fault):
     if request is None:
         return NOTHING
     is_first = request.number not in view.failed
-    answer = error_told(request.frame, Header.of(request.frame).xid, fault.error) if is_first else NOTHING
+    answer = error_told(request.sent, Header.of(request.frame).xid, fault.error) if is_first else NOTHING
     bookings = view.bookings(fault.pair)
     is_own = bool(bookings) and bookings[0].request == request.number
     releases = frozenset([fault.pair] if is_own else [])

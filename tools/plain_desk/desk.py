@@ -1,4 +1,5 @@
 """A desk: a history and its views, and what each event has the proxy send."""
+import dataclasses
 from dataclasses import dataclass
 
 from flowvisor_tool.openflow.protocol import NO_BUFFER, FlowModCommand, Header, MessageType, Port
@@ -9,6 +10,7 @@ from .filter import items_of, opened_item
 from .history import History, Verdict
 from .matches import ANY
 from .messages import CONFIG, FlowMod, body_of, is_whole
+from .turning import turn_out
 from .view import Seen, View
 from .wire import message
 
@@ -61,9 +63,11 @@ class Desk:
     def see(self, view, place, items):
         """Lengthens a view by the items of the event at a place, and tells what follows from each."""
         for item in items:
-            answer = answer_to(self.history.settings[view.slot], view, item)
+            settings = self.history.settings[view.slot]
+            answer = answer_to(settings, view, item)
             view.append(Seen(place, item, answer))
-            yield answer
+            shown = tuple(turn_out(settings.swaps, one) for one in answer.to_slice)
+            yield dataclasses.replace(answer, to_slice=shown) if settings.swaps else answer
 
     def buffer_of(self, slot):
         """What tells the number with which a buffered packet of a slice came."""

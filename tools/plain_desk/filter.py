@@ -13,6 +13,7 @@ from .matches import SIZE, normal_match
 from .messages import FlowRemoved, PacketIn, body_of, is_whole, number_at
 from .policy import first_rule
 from .ports import ascending, is_kept
+from .slice_messages import physical
 from .statistics import StatsReply, flow_match
 from .wire import LARGEST_CAUSE
 
@@ -36,7 +37,7 @@ def items_of(history, view, event):
         case SliceDown(other) if other == slot:
             return [Down()]
         case SliceMessage(other, frame, moment) if other == slot and history.is_up(slot):
-            return [Message(frame, moment)]
+            return [Message(physical(history.settings[slot].swaps, frame), moment, frame)]
         case SwitchMessage(frame) if not is_end(event):
             return switch_items(history, view, event, frame)
     return [End()] if is_end(event) else []

@@ -77,7 +77,7 @@ class History:
         self.features = features
         self.rules = self.policy.on_switch(features.datapath)
         slots = range(len(self.policy.slices))
-        self.settings = [settings_of(self.policy, slot, self.rules) for slot in slots]
+        self.settings = [settings_of(self.policy, slot, self.rules, features.datapath) for slot in slots]
         self.known.append(told_ports(features.ports))
 
     def file(self, event):

@@ -45,10 +45,14 @@ class Down:
 
 @dataclass(frozen=True, slots=True)
 class Message:
-    """A message of the slice's own, and when it came: no other item has a moment."""
+    """A message of the slice's own, and when it came: no other item has a moment.
+
+    Its port numbers are physical; `sent` has the slice's own.
+    """
 
     frame: bytes
     moment: int
+    sent: bytes
 
 
 @dataclass(frozen=True, slots=True)

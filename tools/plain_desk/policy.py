@@ -1,6 +1,6 @@
 """Slices, rules and swaps of port numbers, as the proxy asks them (this proxy's own rule)."""
 import functools
-from dataclasses import dataclass
+from dataclasses import dataclass, field
 
 from flowvisor_tool.openflow.protocol import Port
 
@@ -65,6 +65,11 @@ class Policy:
     rules: tuple[Rule, ...]
     swaps: tuple[Swap, ...] = ()
 
+    def exchanged(self, slot, datapath):
+        """The port numbers that are exchanged for a slice on a switch, each with the other one."""
+        held = [swap for swap in self.swaps if swap.slot == slot and swap.switch in (None, datapath)]
+        return {swap.shown: swap.physical for swap in held} | {swap.physical: swap.shown for swap in held}
+
     def on_switch(self, datapath):
         """The rules that hold on a switch, in their order."""
         return tuple(rule for rule in in_order(self.rules) if rule.holds_on(datapath))
@@ -77,13 +82,15 @@ def first_rule(rules, header):
 
 @dataclass(frozen=True)
 class Settings:
-    """All that the answers to a slice depend on beside its view: its slot, its numbers, and what it writes, in order."""
+    """All that the answers to a slice depend on beside its view: its slot, its numbers, what it writes, in
+    order, and its port numbers."""
 
     slot: int
     rate: int
     burst: int
     quota: int
     writes: tuple[Match, ...]
+    swaps: dict[int, int] = field(default_factory=dict)  # each port number that is exchanged, and the other one
 
     @functools.cached_property
     def writes_aside(self):
@@ -113,8 +120,8 @@ class Settings:
         return self.has_port(in_port) or in_port in (Port.NONE, Port.CONTROLLER)
 
 
-def settings_of(policy, slot, rules):
-    """A slice's settings on a switch with these rules."""
+def settings_of(policy, slot, rules, datapath):
+    """A slice's settings on a switch, which has these rules."""
     share = policy.slices[slot]
     writes = tuple(rule.match for rule in rules if rule.writer == slot)
-    return Settings(slot, share.rate, share.burst, share.quota, writes)
+    return Settings(slot, share.rate, share.burst, share.quota, writes, policy.exchanged(slot, datapath))

@@ -18,6 +18,7 @@ from .pieces import piece_messages, pieces, refuse_large_messages
 from .ports import ascending, flooded_ports
 from .rate import conforms
 from .statistics import StatsRequest, table_reply
+from .turning import turn_in
 from .view import MOST_COLLECTIONS, ROUND
 from .wire import LARGEST_MESSAGE, error_message, has_bad_length, is_dismissing, message
 
@@ -44,7 +45,7 @@ def message_answer(settings, view, item):
         if head.type in LOCAL:
             return LOCAL[head.type](view, frame)
     except Refused as refusal:
-        return error_told(frame, head.xid, refusal.error)
+        return error_told(item.sent, head.xid, refusal.error)
     return counted_answer(settings, view, item, request)
 
 
@@ -71,6 +72,16 @@ def read_request(frame):
     return {
         MessageType.FLOW_MOD: FlowMod.read, MessageType.PACKET_OUT: PacketOut.read, MessageType.STATS_REQUEST: StatsRequest.read,
     }.get(kind, bytes)(frame)
+
+
+def physical(swaps, frame):
+    """A message of the slice with physical port numbers; one that isn't well formed stays."""
+    try:
+        refuse_head(frame)
+        read_request(frame)
+    except Refused:
+        return frame
+    return turn_in(swaps, frame) if swaps else frame
 
 
 # Messages that the proxy answers by itself.
@@ -116,11 +127,11 @@ def counted_answer(settings, view, item, request):
     """The answer to a well-formed message that may be sent on; one that the rate lets pass has used its share."""
     frame, xid = item.frame, Header.of(item.frame).xid
     if not conforms(settings, view.accepted, view.moment(item)):
-        return error_told(frame, xid, NOT_PERMITTED)
+        return error_told(item.sent, xid, NOT_PERMITTED)
     try:
         answer = ANSWERS[Header.of(frame).type](settings, view, frame, request)
     except Refused as refusal:
-        answer = error_told(frame, xid, refusal.error)
+        answer = error_told(item.sent, xid, refusal.error)
     return dataclasses.replace(answer, is_counted=True)
 
 

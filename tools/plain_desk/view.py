@@ -39,6 +39,7 @@ class Request:
     number: int
     place: int
     frame: bytes
+    sent: bytes
 
     def statistics(self):
         """What statistics it asks for, or None."""
@@ -114,7 +115,7 @@ class View:
         if answer.is_config:
             self.lengths.append((place, CONFIG.unpack(body_of(item.frame))[1]))
         if answer.to_switch:
-            request = Request(len(self.requests), place, item.frame)
+            request = Request(len(self.requests), place, item.frame, item.sent)
             for pair in answer.books:
                 self.book[pair].append(Booking(request.number, answer.asks))
             if request.statistics() is not None:

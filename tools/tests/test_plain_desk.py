@@ -154,7 +154,8 @@ class PortTables(unittest.TestCase):
             self.read(f"port = [{', '.join(tables)}]")
 
     def test_print_and_back(self):
-        policy = self.read("port = [{ slice = 'bob', switch = '00000000000000a1', shown = 9, physical = 2 }, { slice = 'bob', shown = 3, physical = 3 }]")
+        swaps = "{ slice = 'bob', switch = '00000000000000a1', shown = 9, physical = 2 }, { slice = 'bob', shown = 3, physical = 3 }"
+        policy = self.read(f"port = [{swaps}]")
         lines = list(policy_lines(policy))
         self.assertEqual(lines[0], "version = 2")
         self.assertEqual(read_policy("\n".join(lines).encode(), 2), policy)
