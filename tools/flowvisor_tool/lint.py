@@ -11,8 +11,7 @@ SUMMARY = "tell all that is wrong with a policy"
 EPILOG = """\
 A fault is what flowvisor check refuses the policy for; it tells the first one alone. A warning is what it accepts, but
 hardly was meant: a rule that never applies, bits of an address that don't count, a reader of some overlapping rules of
-a slice alone, a controller that can never be dialled, two slices with one controller, a port table that exchanges
-nothing. The status is 1 where there is a
+a slice alone, a controller that can never be dialled, two slices with one controller. The status is 1 where there is a
 fault, and with --strict where there is a warning too. With --under what flowvisor flatten refuses is a fault too, and a
 rule that shares no packet with those of NAME is warned of.
 """
