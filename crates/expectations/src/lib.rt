@@ -1,26 +1,50 @@
-//! What a test expects, said as `assert!` and `assert_eq!` say it. The assertions themselves stand in two functions of
-//! the tests' own crate, in its module `assertions`, since no library may abort: `expect_so` and `expect_equal`. They
-//! are proved once; an `assert_eq!` in a test costs a hundred times what a call of one costs.
+//! What a test expects, said as `assert!` and `assert_eq!` say it. Where it isn't so, the test ends there, and fails with
+//! the row. An `assert_eq!` costs a test's proof a hundred times what the call of one of these functions costs.
 #![tactic(auto)]
+
+use std::fmt::Debug;
+use std::test::Fail;
+
+/// What is said of the row is so.
+pub fn expect_so(is_so: bool, row: &impl Debug) -> Result<(), Fail> {
+    if is_so {
+        Ok(())
+    } else {
+        Err(Fail::new(format_args!("{row:?}")))
+    }
+}
+
+/// What is found for the row is what is expected.
+pub fn expect_equal<T: PartialEq + Debug>(
+    found: &T,
+    expected: &T,
+    row: &impl Debug,
+) -> Result<(), Fail> {
+    if found == expected {
+        Ok(())
+    } else {
+        Err(Fail::new(format_args!("{row:?}: {found:?}, not {expected:?}")))
+    }
+}
 
 /// As `assert!`; the row, where there is one, is what the failure names.
 #[macro_export]
 macro_rules! expect {
-    ($rt:expr; $is_so:expr) => {
-        crate::assertions::expect_so(&$rt, $is_so, &stringify!($is_so))
+    ($is_so:expr) => {
+        expectations::expect_so($is_so, &stringify!($is_so))?
     };
-    ($rt:expr; $is_so:expr, $row:expr) => {
-        crate::assertions::expect_so(&$rt, $is_so, &$row)
+    ($is_so:expr, $row:expr) => {
+        expectations::expect_so($is_so, &$row)?
     };
 }
 
 /// As `assert_eq!`; the row, where there is one, is what the failure names.
 #[macro_export]
 macro_rules! expect_eq {
-    ($rt:expr; $found:expr, $expected:expr) => {
-        crate::assertions::expect_equal(&$rt, &$found, &$expected, &stringify!($found))
+    ($found:expr, $expected:expr) => {
+        expectations::expect_equal(&$found, &$expected, &stringify!($found))?
     };
-    ($rt:expr; $found:expr, $expected:expr, $row:expr) => {
-        crate::assertions::expect_equal(&$rt, &$found, &$expected, &$row)
+    ($found:expr, $expected:expr, $row:expr) => {
+        expectations::expect_equal(&$found, &$expected, &$row)?
     };
 }

@@ -46,15 +46,15 @@ fn connections_are_accepted_in_their_order(rt: HostRuntime) -> Result<(), Fail> 
     let links = Arc::new(alloc, Links::new(Vec::new(alloc), Vec::new(alloc)))?;
     let failing = vec![in alloc; 0, 3]?;
     let mut wires = MemoryWires::new(alloc, connections, failing, links);
-    expect_eq!(rt; wires.listen(&rt, "there"), Err(Failed));
+    expect_eq!(wires.listen(&rt, "there"), Err(Failed));
     assert!(rt; wires.listen(&rt, "here").is_ok());
-    expect_eq!(rt; byte_of(wires.accept(&rt)), Some(1));
-    expect_eq!(rt; byte_of(wires.accept(&rt)), None);
-    expect_eq!(rt; byte_of(wires.accept(&rt)), Some(2));
-    expect_eq!(rt; byte_of(wires.accept(&rt)), None);
-    expect_eq!(rt; wires.faults("there"), 1);
-    expect_eq!(rt; wires.faults("here"), 2);
-    expect_eq!(rt; wires.faults("elsewhere"), 0);
+    expect_eq!(byte_of(wires.accept(&rt)), Some(1));
+    expect_eq!(byte_of(wires.accept(&rt)), None);
+    expect_eq!(byte_of(wires.accept(&rt)), Some(2));
+    expect_eq!(byte_of(wires.accept(&rt)), None);
+    expect_eq!(wires.faults("there"), 1);
+    expect_eq!(wires.faults("here"), 2);
+    expect_eq!(wires.faults("elsewhere"), 0);
     Ok(())
 }
 
@@ -69,13 +69,13 @@ fn each_link_is_given_once(rt: HostRuntime) -> Result<(), Fail> {
     let wires = MemoryWires::new(alloc, VecDeque::new(alloc), Vec::new(alloc), links);
     let mut first = wires.dialer();
     let mut second = wires.dialer();
-    expect_eq!(rt; byte_of(first.dial(&rt, "alice", 0)), Some(1));
-    expect_eq!(rt; byte_of(second.dial(&rt, "alice", 0)), Some(2));
-    expect_eq!(rt; byte_of(first.dial(&rt, "alice", 0)), None);
-    expect_eq!(rt; byte_of(second.dial(&rt, "bob", 0)), Some(11));
-    expect_eq!(rt; first.faults("alice"), 1);
-    expect_eq!(rt; first.faults("bob"), 0);
-    expect_eq!(rt; second.faults("alice"), 0);
+    expect_eq!(byte_of(first.dial(&rt, "alice", 0)), Some(1));
+    expect_eq!(byte_of(second.dial(&rt, "alice", 0)), Some(2));
+    expect_eq!(byte_of(first.dial(&rt, "alice", 0)), None);
+    expect_eq!(byte_of(second.dial(&rt, "bob", 0)), Some(11));
+    expect_eq!(first.faults("alice"), 1);
+    expect_eq!(first.faults("bob"), 0);
+    expect_eq!(second.faults("alice"), 0);
     Ok(())
 }
 
@@ -86,10 +86,10 @@ fn dials_fail_where_the_list_says_so(rt: HostRuntime) -> Result<(), Fail> {
     waiting.push(link(alloc, "alice", 1)?)?;
     let links = Arc::new(alloc, Links::new(waiting, vec![in alloc; 0, 1]?))?;
     let mut dialer = MemoryDialer::new(alloc, Some(links));
-    expect_eq!(rt; byte_of(dialer.dial(&rt, "alice", 0)), None);
-    expect_eq!(rt; byte_of(dialer.dial(&rt, "bob", 1)), None);
-    expect_eq!(rt; byte_of(dialer.dial(&rt, "alice", 2)), Some(1));
-    expect_eq!(rt; dialer.faults("alice"), 1);
-    expect_eq!(rt; dialer.faults("bob"), 1);
+    expect_eq!(byte_of(dialer.dial(&rt, "alice", 0)), None);
+    expect_eq!(byte_of(dialer.dial(&rt, "bob", 1)), None);
+    expect_eq!(byte_of(dialer.dial(&rt, "alice", 2)), Some(1));
+    expect_eq!(dialer.faults("alice"), 1);
+    expect_eq!(dialer.faults("bob"), 1);
     Ok(())
 }

@@ -3,8 +3,6 @@
 #![tactic(auto)]
 
 #[cfg(test)]
-mod assertions;
-#[cfg(test)]
 mod connections;
 #[cfg(test)]
 mod notes;

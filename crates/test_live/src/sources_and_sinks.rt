@@ -13,23 +13,23 @@ fn source_gives_its_bytes_in_pieces_and_then_its_end(rt: HostRuntime) -> Result<
     let bytes = Vec::from_slice(alloc, b"abcde")?;
     let mut source = MemorySource::new(bytes, 3, vec![in alloc; 1]?);
     let mut into = [0; 4];
-    expect_eq!(rt; source.take(&mut into), Ok(3));
-    expect_eq!(rt; into, *b"abc\0");
-    expect_eq!(rt; source.take(&mut into), Err(Failed));
-    expect_eq!(rt; source.faults(), 1);
-    expect_eq!(rt; source.take(&mut into), Ok(2));
-    expect_eq!(rt; into, *b"dec\0");
-    expect_eq!(rt; source.take(&mut into), Ok(0));
-    expect_eq!(rt; NeverSource.take(&mut into), Ok(0));
+    expect_eq!(source.take(&mut into), Ok(3));
+    expect_eq!(into, *b"abc\0");
+    expect_eq!(source.take(&mut into), Err(Failed));
+    expect_eq!(source.faults(), 1);
+    expect_eq!(source.take(&mut into), Ok(2));
+    expect_eq!(into, *b"dec\0");
+    expect_eq!(source.take(&mut into), Ok(0));
+    expect_eq!(NeverSource.take(&mut into), Ok(0));
     Ok(())
 }
 
 #[test]
 fn clock_stays_at_its_last_moment(rt: HostRuntime) -> Result<(), Fail> {
     let mut clock = MemoryClock::new(vec![in rt.alloc(); 7, 5]?);
-    expect_eq!(rt; clock.now(), 7);
-    expect_eq!(rt; clock.now(), 5);
-    expect_eq!(rt; clock.now(), 5);
+    expect_eq!(clock.now(), 7);
+    expect_eq!(clock.now(), 5);
+    expect_eq!(clock.now(), 5);
     Ok(())
 }
 
@@ -38,8 +38,8 @@ fn shared_bytes_are_seen_by_others(rt: HostRuntime) -> Result<(), Fail> {
     let alloc = rt.alloc();
     let shared = Arc::new(alloc, SharedBytes::new(alloc))?;
     let mut sink = SharedSink::new(&rt, shared.clone()?);
-    expect_eq!(rt; sink.put(b"abc"), Ok(3));
-    expect_eq!(rt; shared.so_far(&rt, alloc)?.as_slice(), b"abc".as_slice());
+    expect_eq!(sink.put(b"abc"), Ok(3));
+    expect_eq!(shared.so_far(&rt, alloc)?.as_slice(), b"abc".as_slice());
     Ok(())
 }
 
@@ -59,8 +59,8 @@ fn held_sink_puts_once_its_flag_is_raised(rt: HostRuntime) -> Result<(), Fail> {
             before
         },
     );
-    expect_eq!(rt; put, Ok(3));
-    expect!(rt; before?.is_empty());
-    expect_eq!(rt; shared.so_far(&rt, alloc)?.as_slice(), b"abc".as_slice());
+    expect_eq!(put, Ok(3));
+    expect!(before?.is_empty());
+    expect_eq!(shared.so_far(&rt, alloc)?.as_slice(), b"abc".as_slice());
     Ok(())
 }

@@ -63,12 +63,12 @@ fn replies_to_two_threads_are_all_numbers_once(rt: HostRuntime) -> Result<(), Fa
     let mut all = replies;
     all.extend_from_slice(&theirs.replies)?;
     all.sort_unstable();
-    expect!(rt; all.iter().copied().eq(1..=2_000u64));
-    expect_eq!(rt; theirs.seat.left(), 0);
+    expect!(all.iter().copied().eq(1..=2_000u64));
+    expect_eq!(theirs.seat.left(), 0);
     desk.join(&mut seat, theirs.seat);
-    expect!(rt; desk.submit(&rt, &mut seat, ()) == Ok(2_001));
+    expect!(desk.submit(&rt, &mut seat, ()) == Ok(2_001));
     let counter = desk.close(seat);
-    expect!(rt; counter.is_some_and(|counter| counter.asked == 2_001));
+    expect!(counter.is_some_and(|counter| counter.asked == 2_001));
     Ok(())
 }
 
@@ -76,9 +76,9 @@ fn replies_to_two_threads_are_all_numbers_once(rt: HostRuntime) -> Result<(), Fa
 fn desk_with_a_seat_that_has_calls_is_not_given_back(rt: HostRuntime) -> Result<(), Fail> {
     let (desk, mut seat) = TurnDesk::new(rt.alloc(), Counter { asked: 0 })?;
     let other = desk.split(&mut seat, 5);
-    expect_eq!(rt; other.left(), 5);
-    expect_eq!(rt; seat.left(), (1 << 63) - 5);
-    expect!(rt; desk.close(seat).is_none());
+    expect_eq!(other.left(), 5);
+    expect_eq!(seat.left(), (1 << 63) - 5);
+    expect!(desk.close(seat).is_none());
     Ok(())
 }
 
@@ -88,8 +88,8 @@ fn desk_is_not_given_back_to_a_seat_that_has_not_seen_all(rt: HostRuntime) -> Re
     let (desk, mut seat) = TurnDesk::new(alloc, Counter { asked: 0 })?;
     let other = desk.split(&mut seat, 5);
     let theirs = ask_all(&rt, alloc, &desk, other, 5)?;
-    expect_eq!(rt; theirs.seat.left(), 0);
-    expect!(rt; desk.close(seat).is_none());
+    expect_eq!(theirs.seat.left(), 0);
+    expect!(desk.close(seat).is_none());
     Ok(())
 }
 
@@ -97,10 +97,10 @@ fn desk_is_not_given_back_to_a_seat_that_has_not_seen_all(rt: HostRuntime) -> Re
 fn seat_without_calls_is_spent(rt: HostRuntime) -> Result<(), Fail> {
     let (desk, mut seat) = TurnDesk::new(rt.alloc(), Counter { asked: 0 })?;
     let mut other = desk.split(&mut seat, 0);
-    expect!(rt; desk.submit(&rt, &mut other, ()) == Err(Spent));
-    expect!(rt; desk.submit(&rt, &mut seat, ()) == Ok(1));
+    expect!(desk.submit(&rt, &mut other, ()) == Err(Spent));
+    expect!(desk.submit(&rt, &mut seat, ()) == Ok(1));
     desk.meet(&mut seat, &mut other);
-    expect!(rt; desk.close(other).is_none());
+    expect!(desk.close(other).is_none());
     Ok(())
 }
 
@@ -110,9 +110,9 @@ fn object_is_given_back_once_all_calls_are_made(rt: HostRuntime) -> Result<(), F
     let (desk, mut seat) = TurnDesk::new(alloc, Counter { asked: 0 })?;
     let other = desk.split(&mut seat, 5);
     let mut theirs = ask_all(&rt, alloc, &desk, other, 6)?;
-    expect_eq!(rt; theirs.replies.as_slice(), &[1, 2, 3, 4, 5][..]);
+    expect_eq!(theirs.replies.as_slice(), &[1, 2, 3, 4, 5][..]);
     desk.meet(&mut seat, &mut theirs.seat);
     let counter = desk.close(seat);
-    expect!(rt; counter.is_some_and(|counter| counter.asked == 5));
+    expect!(counter.is_some_and(|counter| counter.asked == 5));
     Ok(())
 }

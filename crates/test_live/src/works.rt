@@ -21,13 +21,13 @@ fn works_run_on_threads_but_where_a_start_fails(rt: HostRuntime) -> Result<(), F
             byte,
         };
         let started = spawner.start(&rt, note);
-        expect_eq!(rt; started.is_err(), byte == 2);
+        expect_eq!(started.is_err(), byte == 2);
     }
     spawner.finish(&rt);
-    expect_eq!(rt; spawner.faults(), 1);
+    expect_eq!(spawner.faults(), 1);
     let mut seen = bytes.so_far(&rt, alloc)?;
     seen.sort()?;
-    expect_eq!(rt; seen.as_slice(), [1, 3].as_slice());
+    expect_eq!(seen.as_slice(), [1, 3].as_slice());
     Ok(())
 }
 
@@ -44,9 +44,9 @@ fn start_that_is_refused_fails(rt: HostRuntime) -> Result<(), Fail> {
         bytes: bytes.clone()?,
         byte: 1,
     };
-    expect_eq!(rt; spawner.start(&rt, note), Err(Failed));
+    expect_eq!(spawner.start(&rt, note), Err(Failed));
     spawner.finish(&rt);
-    expect_eq!(rt; spawner.faults(), 1);
-    expect!(rt; bytes.so_far(&rt, alloc)?.is_empty());
+    expect_eq!(spawner.faults(), 1);
+    expect!(bytes.so_far(&rt, alloc)?.is_empty());
     Ok(())
 }

@@ -3,6 +3,4 @@
 #![tactic(auto)]
 
 #[cfg(test)]
-mod assertions;
-#[cfg(test)]
 mod tests;

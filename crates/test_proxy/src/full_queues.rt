@@ -259,6 +259,6 @@ alice finds ended
 
 #[test]
 fn what_is_filled_is_choked_until_its_connection_ends(rt: HostRuntime) -> Result<(), Fail> {
-    expect_rows(&rt, rt.alloc(), TABLE, 256)?;
+    expect_rows(rt.alloc(), TABLE, 256)?;
     Ok(())
 }

@@ -124,6 +124,6 @@ switch finds nothing
 fn messages_of_wrong_forms_are_refused_and_change_nothing_else(
     rt: HostRuntime,
 ) -> Result<(), Fail> {
-    expect_rows(&rt, rt.alloc(), TABLE, 1)?;
+    expect_rows(rt.alloc(), TABLE, 1)?;
     Ok(())
 }

@@ -18,7 +18,7 @@ use of10_ctl::Frame;
 use proxy_core::{Desk, Dest, Event, Taken, Timed, Verdict};
 use samples::{policy, rule, tcp};
 use std::alloc::{AllocError, Global};
-use std::process::Abort;
+use std::test::Fail;
 
 /// The datapath id that the switch tells.
 const DATAPATH: u64 = 0xa1;
@@ -162,33 +162,28 @@ fn numbered(alloc: Global, what: &str, time: u32) -> Result<String, AllocError> 
 }
 
 /// Each row but `opened` is so.
-fn play(rt: &impl Abort, alloc: Global, desk: &mut Desk, rows: &str) -> Result<(), AllocError> {
+fn play(alloc: Global, desk: &mut Desk, rows: &str) -> Result<(), Fail> {
     for row in rows.lines() {
         let (who, verb, count, what) = words_of(row).ok_or(AllocError)?;
         let whose = connection(who)?;
         for time in 0..count {
             let what = numbered(alloc, what, time)?;
-            expect!(*rt; is_so(alloc, desk, whose, verb, what.as_str())?, row);
+            expect!(is_so(alloc, desk, whose, verb, what.as_str())?, row);
         }
     }
     Ok(())
 }
 
 /// Each case goes as its rows say, where alice writes packets for so many ports.
-pub(crate) fn expect_rows(
-    rt: &impl Abort,
-    alloc: Global,
-    cases: &str,
-    ports: u16,
-) -> Result<(), AllocError> {
+pub(crate) fn expect_rows(alloc: Global, cases: &str, ports: u16) -> Result<(), Fail> {
     let mut desk = self::desk(alloc, ports)?;
     for row in cases.lines() {
         if row.starts_with('#') {
             desk = self::desk(alloc, ports)?;
         } else if row == "opened" {
-            play(rt, alloc, &mut desk, OPENED)?;
+            play(alloc, &mut desk, OPENED)?;
         } else {
-            play(rt, alloc, &mut desk, row)?;
+            play(alloc, &mut desk, row)?;
         }
     }
     Ok(())

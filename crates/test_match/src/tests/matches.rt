@@ -6,6 +6,7 @@ use expectations::{expect, expect_eq};
 use of10_match::{Header12, Match};
 use of10_model::wire::{set_u16, set_u32};
 use of10_model::{Pattern, Prefix};
+use std::test::Fail;
 
 /// The header of a TCP packet to a port, which came in on port 1.
 fn to_port(port: u16) -> Header12
@@ -68,28 +69,29 @@ fn web() -> [u8; 40] {
 }
 
 #[test]
-fn free_matches_have_many_spellings(rt: HostRuntime) {
-    expect_eq!(rt;
+fn free_matches_have_many_spellings(_rt: HostRuntime) -> Result<(), Fail> {
+    expect_eq!(
         *Match::decode(&with_word(0x003fffff, 0xab)).pattern(),
         Pattern::ANY,
         "fields under wildcard bits"
     );
-    expect_eq!(rt;
+    expect_eq!(
         *Match::decode(&with_word(0xffffffff, 0)).pattern(),
         Pattern::ANY,
         "bits past the last"
     );
     let mut port_alone = with_word(0x0038207f, 0);
     port_alone[39] = 80;
-    expect_eq!(rt;
+    expect_eq!(
         *Match::decode(&port_alone).pattern(),
         Pattern::ANY,
         "a port without a protocol"
     );
+    Ok(())
 }
 
 #[test]
-fn counts_of_ignored_bits_make_prefixes(rt: HostRuntime) {
+fn counts_of_ignored_bits_make_prefixes(_rt: HostRuntime) -> Result<(), Fail> {
     // word and address as read; word and address as written; the length of the prefix
     let cases = [
         (0x003808ef, 0x0a010200, 0x003808ef, 0x0a010200, 24),
@@ -105,32 +107,33 @@ fn counts_of_ignored_bits_make_prefixes(rt: HostRuntime) {
             ..Pattern::ANY
         };
         let found = Match::decode(&from_source(word, address));
-        expect_eq!(rt; *found.pattern(), expected, word);
-        expect_eq!(rt; found.encode(), from_source(kept_word, value), word);
+        expect_eq!(*found.pattern(), expected, word);
+        expect_eq!(found.encode(), from_source(kept_word, value), word);
     }
+    Ok(())
 }
 
 #[test]
-fn fields_with_their_prerequisites_are_kept(rt: HostRuntime) {
+fn fields_with_their_prerequisites_are_kept(_rt: HostRuntime) -> Result<(), Fail> {
     let expected = Pattern {
         dl_type: Some(0x0800),
         nw_proto: Some(6),
         tp_dst: Some(80),
         ..Pattern::ANY
     };
-    expect_eq!(rt; *Match::decode(&web()).pattern(), expected);
+    expect_eq!(*Match::decode(&web()).pattern(), expected);
 
     let tagged = Pattern {
         dl_vlan: Some(0x0505),
         dl_vlan_pcp: Some(5),
         ..Pattern::ANY
     };
-    expect_eq!(rt;
+    expect_eq!(
         *Match::decode(&with_word(0x002ffffd, 0x05)).pattern(),
         tagged,
         "a tag"
     );
-    expect_eq!(rt;
+    expect_eq!(
         *Match::decode(&with_word(0x002ffffd, 0xff)).pattern(),
         Pattern {
             dl_vlan: Some(0xffff),
@@ -138,7 +141,7 @@ fn fields_with_their_prerequisites_are_kept(rt: HostRuntime) {
         },
         "untagged"
     );
-    expect_eq!(rt;
+    expect_eq!(
         *Match::decode(&of_type(0x001fffef, 0x0800, 0xff)).pattern(),
         Pattern {
             dl_type: Some(0x0800),
@@ -147,10 +150,11 @@ fn fields_with_their_prerequisites_are_kept(rt: HostRuntime) {
         },
         "a type of service"
     );
+    Ok(())
 }
 
 #[test]
-fn all_exact_matches_stay_all_exact(rt: HostRuntime) {
+fn all_exact_matches_stay_all_exact(_rt: HostRuntime) -> Result<(), Fail> {
     let expected = Pattern {
         in_port: Some(0x4f4f),
         dl_src: Some(0x4f4f4f4f4f4f),
@@ -165,14 +169,15 @@ fn all_exact_matches_stay_all_exact(rt: HostRuntime) {
         tp_src: Some(0),
         tp_dst: Some(0),
     };
-    expect_eq!(rt;
+    expect_eq!(
         *Match::decode(&of_type(0, 0x88cc, 0x4f)).pattern(),
         expected
     );
+    Ok(())
 }
 
 #[test]
-fn headers_are_matched_by_each_constraint(rt: HostRuntime) {
+fn headers_are_matched_by_each_constraint(_rt: HostRuntime) -> Result<(), Fail> {
     let all = Match::decode(&with_word(0x003fffff, 0));
     let web = Match::decode(&web());
     let net = Match::decode(&from_source(0x003808ef, 0x0a010200));
@@ -189,36 +194,37 @@ fn headers_are_matched_by_each_constraint(rt: HostRuntime) {
         (upper_half, of_host(0x7fffffff), false),
     ];
     for (m, h, expected) in &cases {
-        expect_eq!(rt; m.matches(h), *expected, (m, h));
+        expect_eq!(m.matches(h), *expected, (m, h));
     }
+    Ok(())
 }
 
 #[test]
-fn matches_are_written_in_their_one_spelling(rt: HostRuntime) {
+fn matches_are_written_in_their_one_spelling(_rt: HostRuntime) -> Result<(), Fail> {
     let mut all = [0; 40];
     all[0..4].copy_from_slice(&[0x00, 0x38, 0x20, 0xff]);
-    expect_eq!(rt; Match::all().encode(), all);
+    expect_eq!(Match::all().encode(), all);
     let mut freed = [0x5a; 40];
     freed[0..4].copy_from_slice(&[0x00, 0x3f, 0xff, 0xff]);
-    expect_eq!(rt; Match::decode(&freed).encode(), all);
+    expect_eq!(Match::decode(&freed).encode(), all);
     let mut port_alone = all;
     port_alone[0..4].copy_from_slice(&[0x00, 0x38, 0x20, 0x7f]);
     port_alone[39] = 80;
-    expect_eq!(rt; Match::decode(&port_alone).encode(), all);
-    expect!(rt; !Match::all().is_exact());
+    expect_eq!(Match::decode(&port_alone).encode(), all);
+    expect!(!Match::all().is_exact());
+    Ok(())
 }
 
 #[test]
-fn an_exact_match_has_its_header_alone(rt: HostRuntime) {
+fn an_exact_match_has_its_header_alone(_rt: HostRuntime) -> Result<(), Fail> {
     let header = to_port(80);
     let exact = Match::exact(&header);
-    expect!(rt; exact.is_exact());
-    expect!(rt; exact.matches(&header));
-    expect!(rt;
-        !exact.matches(&Header12 {
-            tp_dst: 81,
-            ..header
-        })
-    );
-    expect_eq!(rt; Match::decode(&exact.encode()), exact);
+    expect!(exact.is_exact());
+    expect!(exact.matches(&header));
+    expect!(!exact.matches(&Header12 {
+        tp_dst: 81,
+        ..header
+    }));
+    expect_eq!(Match::decode(&exact.encode()), exact);
+    Ok(())
 }

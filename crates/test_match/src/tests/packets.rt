@@ -78,7 +78,7 @@ fn arp() -> Header12 {
 }
 
 #[test]
-fn short_packets(rt: HostRuntime) {
+fn short_packets(_rt: HostRuntime) -> Result<(), Fail> {
     let nothing = Header12 {
         dl_src: 0,
         dl_dst: 0,
@@ -103,24 +103,25 @@ fn short_packets(rt: HostRuntime) {
         (54, ipv4(6, 0x0400, 80)),
     ];
     for (length, want) in table {
-        expect_eq!(rt; header_of(1, front(&IPV4_TCP, length)), want, length);
+        expect_eq!(header_of(1, front(&IPV4_TCP, length)), want, length);
     }
+    Ok(())
 }
 
 #[test]
-fn vlan_tags(rt: HostRuntime) {
+fn vlan_tags(_rt: HostRuntime) -> Result<(), Fail> {
     let want = Header12 {
         dl_vlan: 5,
         dl_vlan_pcp: 3,
         ..ipv4(6, 0x0400, 80)
     };
-    expect_eq!(rt; header_of(1, &TAGGED), want);
+    expect_eq!(header_of(1, &TAGGED), want);
     // A tag that is cut off is none.
-    expect_eq!(rt; header_of(1, front(&TAGGED, 17)), bare(0));
+    expect_eq!(header_of(1, front(&TAGGED, 17)), bare(0));
     let mut twice = TAGGED;
     twice[16] = 0x81;
     twice[17] = 0x00;
-    expect_eq!(rt;
+    expect_eq!(
         header_of(1, &twice),
         Header12 {
             dl_vlan: 5,
@@ -131,7 +132,7 @@ fn vlan_tags(rt: HostRuntime) {
     let mut length = TAGGED;
     length[16] = 0x00;
     length[17] = 0x28;
-    expect_eq!(rt;
+    expect_eq!(
         header_of(1, &length),
         Header12 {
             dl_vlan: 5,
@@ -139,52 +140,55 @@ fn vlan_tags(rt: HostRuntime) {
             ..bare(0x05ff)
         }
     );
+    Ok(())
 }
 
 #[test]
-fn ieee_802_3(rt: HostRuntime) {
-    expect_eq!(rt; header_of(1, &SNAP), arp());
-    expect_eq!(rt; header_of(1, front(&SNAP, 21)), bare(0x05ff));
+fn ieee_802_3(_rt: HostRuntime) -> Result<(), Fail> {
+    expect_eq!(header_of(1, &SNAP), arp());
+    expect_eq!(header_of(1, front(&SNAP, 21)), bare(0x05ff));
     let mut other = SNAP;
     other[19] = 1;
-    expect_eq!(rt; header_of(1, &other), bare(0x05ff));
+    expect_eq!(header_of(1, &other), bare(0x05ff));
     // The least type is 0x0600, whatever follows it.
     let mut least = SNAP;
     least[12] = 0x06;
     least[13] = 0x00;
-    expect_eq!(rt; header_of(1, &least), bare(0x0600));
+    expect_eq!(header_of(1, &least), bare(0x0600));
     least[12] = 0x05;
     least[13] = 0xff;
-    expect_eq!(rt; header_of(1, &least), arp());
+    expect_eq!(header_of(1, &least), arp());
+    Ok(())
 }
 
 #[test]
-fn ipv4_headers(rt: HostRuntime) {
+fn ipv4_headers(_rt: HostRuntime) -> Result<(), Fail> {
     let mut options = IPV4_TCP;
     options[14] = 0x46;
     options[38] = 0x12;
     options[39] = 0x34;
     options[40] = 0x56;
     options[41] = 0x78;
-    expect_eq!(rt; header_of(1, &options), ipv4(6, 0x1234, 0x5678));
+    expect_eq!(header_of(1, &options), ipv4(6, 0x1234, 0x5678));
     // The options are cut off, and with them the ports.
-    expect_eq!(rt; header_of(1, front(&options, 34)), ipv4(6, 0, 0));
+    expect_eq!(header_of(1, front(&options, 34)), ipv4(6, 0, 0));
     let mut too_short = IPV4_TCP;
     too_short[14] = 0x44;
-    expect_eq!(rt; header_of(1, &too_short), bare(0x0800));
+    expect_eq!(header_of(1, &too_short), bare(0x0800));
     let mut service = IPV4_TCP;
     service[15] = 0xff;
-    expect_eq!(rt;
+    expect_eq!(
         header_of(1, &service),
         Header12 {
             nw_tos: 0xfc,
             ..ipv4(6, 0x0400, 80)
         }
     );
+    Ok(())
 }
 
 #[test]
-fn fragments(rt: HostRuntime) {
+fn fragments(_rt: HostRuntime) -> Result<(), Fail> {
     // More fragments; don't fragment; an offset.
     for (high, low, want) in [
         (0x20, 0, ipv4(6, 0, 0)),
@@ -194,30 +198,33 @@ fn fragments(rt: HostRuntime) {
         let mut packet = IPV4_TCP;
         packet[20] = high;
         packet[21] = low;
-        expect_eq!(rt; header_of(1, &packet), want, (high, low));
+        expect_eq!(header_of(1, &packet), want, (high, low));
     }
+    Ok(())
 }
 
 #[test]
-fn transports(rt: HostRuntime) {
+fn transports(_rt: HostRuntime) -> Result<(), Fail> {
     let mut ports = IPV4_TCP;
     ports[34] = 3;
     ports[35] = 10;
     for (proto, tp_src, tp_dst) in [(17, 0x030a, 80), (1, 3, 10), (47, 0, 0)] {
         let mut packet = ports;
         packet[23] = proto;
-        expect_eq!(rt; header_of(1, &packet), ipv4(proto, tp_src, tp_dst), proto);
+        expect_eq!(header_of(1, &packet), ipv4(proto, tp_src, tp_dst), proto);
     }
     let mut icmp = ports;
     icmp[23] = 1;
-    expect_eq!(rt; header_of(1, front(&icmp, 36)), ipv4(1, 3, 10));
-    expect_eq!(rt; header_of(1, front(&icmp, 35)), ipv4(1, 0, 0));
+    expect_eq!(header_of(1, front(&icmp, 36)), ipv4(1, 3, 10));
+    expect_eq!(header_of(1, front(&icmp, 35)), ipv4(1, 0, 0));
+    Ok(())
 }
 
 #[test]
-fn arp_packets(rt: HostRuntime) {
-    expect_eq!(rt; header_of(1, &ARP), arp());
-    expect_eq!(rt; header_of(1, front(&ARP, 41)), bare(0x0806));
+fn arp_packets(_rt: HostRuntime) -> Result<(), Fail> {
+    expect_eq!(header_of(1, &ARP), arp());
+    expect_eq!(header_of(1, front(&ARP, 41)), bare(0x0806));
+    Ok(())
 }
 
 // An LLDP packet of 16 bytes, filled to 52, and the trailer of a slot.
@@ -239,10 +246,10 @@ fn probe(slot: u8) -> [u8; 60] {
 }
 
 #[test]
-fn probes(rt: HostRuntime) {
-    expect_eq!(rt; probe_slot(&probe(0)), Some(0));
-    expect_eq!(rt; probe_slot(&probe(1)), Some(1));
-    expect_eq!(rt; probe_trailer(1), [0x46, 0x56, 0x53, 0x4c, 1, 0, 0, 0]);
+fn probes(_rt: HostRuntime) -> Result<(), Fail> {
+    expect_eq!(probe_slot(&probe(0)), Some(0));
+    expect_eq!(probe_slot(&probe(1)), Some(1));
+    expect_eq!(probe_trailer(1), [0x46, 0x56, 0x53, 0x4c, 1, 0, 0, 0]);
     // Another type, another mark, and a last byte that isn't zero.
     for (place, value) in [
         (13, 0xcd),
@@ -254,10 +261,11 @@ fn probes(rt: HostRuntime) {
     ] {
         let mut packet = probe(1);
         packet[place % 60] = value;
-        expect_eq!(rt; probe_slot(&packet), None, (value, place));
+        expect_eq!(probe_slot(&packet), None, (value, place));
     }
     // The mark has to end the packet, and eight bytes alone have no type.
-    expect_eq!(rt; probe_slot(front(&probe(1), 59)), None);
-    expect_eq!(rt; probe_slot(front(&probe(1), 7)), None);
-    expect_eq!(rt; probe_slot(&probe_trailer(1)), None);
+    expect_eq!(probe_slot(front(&probe(1), 59)), None);
+    expect_eq!(probe_slot(front(&probe(1), 7)), None);
+    expect_eq!(probe_slot(&probe_trailer(1)), None);
+    Ok(())
 }

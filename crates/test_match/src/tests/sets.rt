@@ -16,6 +16,7 @@ use of10_action::Action;
 use of10_match::{Header12, Match};
 use of10_model::{Pattern, Prefix};
 use spelling::match_of;
+use std::test::Fail;
 
 fn prefix(value: u32, bits: u8) -> Option<Prefix> {
     Some(Prefix { bits, value })
@@ -31,22 +32,23 @@ fn spelled(word: u32, address: u32) -> [u8; 40] {
 }
 
 #[test]
-fn the_longer_prefix_is_the_meet(rt: HostRuntime) {
+fn the_longer_prefix_is_the_meet(_rt: HostRuntime) -> Result<(), Fail> {
     let net_bytes = spelled(0x003808ef, 0x0a010200);
     let net = Match::decode(&net_bytes);
     let wide = Match::decode(&spelled(0x003818ef, 0x0a000000));
     let other = Match::decode(&spelled(0x003810ef, 0x0a020000));
-    expect_eq!(rt; meet(&net, &wide), Some(net));
-    expect_eq!(rt; meet(&net, &wide).map(|m| m.encode()), Some(net_bytes));
-    expect_eq!(rt; meet(&wide, &net), Some(net));
-    expect_eq!(rt; meet(&net, &other), None);
-    expect!(rt; disjoint(&net, &other));
-    expect!(rt; includes(&wide, &net));
-    expect!(rt; !includes(&net, &wide));
+    expect_eq!(meet(&net, &wide), Some(net));
+    expect_eq!(meet(&net, &wide).map(|m| m.encode()), Some(net_bytes));
+    expect_eq!(meet(&wide, &net), Some(net));
+    expect_eq!(meet(&net, &other), None);
+    expect!(disjoint(&net, &other));
+    expect!(includes(&wide, &net));
+    expect!(!includes(&net, &wide));
+    Ok(())
 }
 
 #[test]
-fn in_port_can_be_disregarded(rt: HostRuntime) {
+fn in_port_can_be_disregarded(_rt: HostRuntime) -> Result<(), Fail> {
     let at_one = match_of(&Pattern {
         in_port: Some(1),
         ..Pattern::ANY
@@ -56,9 +58,10 @@ fn in_port_can_be_disregarded(rt: HostRuntime) {
         dl_type: Some(0x0800),
         ..Pattern::ANY
     });
-    expect!(rt; !includes(&at_one, &at_two));
-    expect!(rt; includes_aside(&at_one, &at_two));
-    expect!(rt; !includes_aside(&at_two, &at_one));
+    expect!(!includes(&at_one, &at_two));
+    expect!(includes_aside(&at_one, &at_two));
+    expect!(!includes_aside(&at_two, &at_one));
+    Ok(())
 }
 
 /// A match of tagged packets of this type and protocol.
@@ -101,34 +104,32 @@ fn cover(before: &Pattern, action: Action) -> Pattern
 }
 
 #[test]
-fn vlan_actions_change_the_cover(rt: HostRuntime) {
+fn vlan_actions_change_the_cover(_rt: HostRuntime) -> Result<(), Fail> {
     let vid = Action::SetVlanVid(0x1005);
-    expect_eq!(rt;
+    expect_eq!(
         cover(&untagged(), vid),
         with_vlan(&Pattern::ANY, 5, Some(0))
     );
-    expect_eq!(rt; cover(&one(), vid), with_vlan(&one(), 5, Some(3)));
-    expect_eq!(rt;
-        cover(&Pattern::ANY, vid),
-        with_vlan(&Pattern::ANY, 5, None)
-    );
+    expect_eq!(cover(&one(), vid), with_vlan(&one(), 5, Some(3)));
+    expect_eq!(cover(&Pattern::ANY, vid), with_vlan(&Pattern::ANY, 5, None));
 
     let pcp = Action::SetVlanPcp(0x0d);
-    expect_eq!(rt; cover(&Pattern::ANY, pcp), Pattern::ANY);
-    expect_eq!(rt;
+    expect_eq!(cover(&Pattern::ANY, pcp), Pattern::ANY);
+    expect_eq!(
         cover(&untagged(), pcp),
         with_vlan(&Pattern::ANY, 0, Some(5))
     );
-    expect_eq!(rt; cover(&one(), pcp), with_vlan(&one(), 7, Some(5)));
+    expect_eq!(cover(&one(), pcp), with_vlan(&one(), 7, Some(5)));
 
     let strip = Action::StripVlan;
-    expect_eq!(rt; cover(&one(), strip), with_vlan(&one(), 0xffff, Some(0)));
+    expect_eq!(cover(&one(), strip), with_vlan(&one(), 0xffff, Some(0)));
     let tcp = tagged(0x0800, 6);
-    expect_eq!(rt; cover(&tcp, strip), with_vlan(&tcp, 0xffff, None));
+    expect_eq!(cover(&tcp, strip), with_vlan(&tcp, 0xffff, None));
+    Ok(())
 }
 
 #[test]
-fn address_actions_change_the_cover(rt: HostRuntime) {
+fn address_actions_change_the_cover(_rt: HostRuntime) -> Result<(), Fail> {
     let from = Pattern {
         dl_src: Some(9),
         ..Pattern::ANY
@@ -137,8 +138,8 @@ fn address_actions_change_the_cover(rt: HostRuntime) {
         dl_dst: Some(9),
         ..Pattern::ANY
     };
-    expect_eq!(rt; cover(&Pattern::ANY, Action::SetDlSrc(9)), from);
-    expect_eq!(rt; cover(&Pattern::ANY, Action::SetDlDst(9)), to);
+    expect_eq!(cover(&Pattern::ANY, Action::SetDlSrc(9)), from);
+    expect_eq!(cover(&Pattern::ANY, Action::SetDlDst(9)), to);
 
     let address = 0x0a000009;
     let icmp = tagged(0x0800, 1);
@@ -151,14 +152,15 @@ fn address_actions_change_the_cover(rt: HostRuntime) {
         nw_dst: prefix(address, 32),
         ..icmp
     };
-    expect_eq!(rt; cover(&icmp, Action::SetNwSrc(address)), from);
-    expect_eq!(rt; cover(&icmp, Action::SetNwDst(address)), to);
-    expect_eq!(rt; cover(&arp, Action::SetNwSrc(address)), arp);
-    expect_eq!(rt; cover(&arp, Action::SetNwDst(address)), arp);
+    expect_eq!(cover(&icmp, Action::SetNwSrc(address)), from);
+    expect_eq!(cover(&icmp, Action::SetNwDst(address)), to);
+    expect_eq!(cover(&arp, Action::SetNwSrc(address)), arp);
+    expect_eq!(cover(&arp, Action::SetNwDst(address)), arp);
+    Ok(())
 }
 
 #[test]
-fn service_and_port_actions_change_the_cover(rt: HostRuntime) {
+fn service_and_port_actions_change_the_cover(_rt: HostRuntime) -> Result<(), Fail> {
     let udp = tagged(0x0800, 17);
     let icmp = tagged(0x0800, 1);
     let arp = tagged(0x0806, 1);
@@ -174,17 +176,18 @@ fn service_and_port_actions_change_the_cover(rt: HostRuntime) {
         tp_dst: Some(53),
         ..udp
     };
-    expect_eq!(rt; cover(&udp, Action::SetNwTos(0x17)), service);
-    expect_eq!(rt; cover(&arp, Action::SetNwTos(0x17)), arp);
-    expect_eq!(rt; cover(&udp, Action::SetTpSrc(53)), from);
-    expect_eq!(rt; cover(&udp, Action::SetTpDst(53)), to);
-    expect_eq!(rt; cover(&icmp, Action::SetTpSrc(53)), icmp);
-    expect_eq!(rt; cover(&icmp, Action::SetTpDst(53)), icmp);
-    expect_eq!(rt; cover(&udp, Action::Enqueue { port: 1, queue: 2 }), udp);
+    expect_eq!(cover(&udp, Action::SetNwTos(0x17)), service);
+    expect_eq!(cover(&arp, Action::SetNwTos(0x17)), arp);
+    expect_eq!(cover(&udp, Action::SetTpSrc(53)), from);
+    expect_eq!(cover(&udp, Action::SetTpDst(53)), to);
+    expect_eq!(cover(&icmp, Action::SetTpSrc(53)), icmp);
+    expect_eq!(cover(&icmp, Action::SetTpDst(53)), icmp);
+    expect_eq!(cover(&udp, Action::Enqueue { port: 1, queue: 2 }), udp);
+    Ok(())
 }
 
 #[test]
-fn headers_are_rewritten(rt: HostRuntime) {
+fn headers_are_rewritten(_rt: HostRuntime) -> Result<(), Fail> {
     let h = FIRST_HEADER;
     let untagged = Header12 {
         dl_vlan: 0xffff,
@@ -193,16 +196,16 @@ fn headers_are_rewritten(rt: HostRuntime) {
     };
     let vid = Action::SetVlanVid(0x1005);
     let pcp = Action::SetVlanPcp(0x0d);
-    expect_eq!(rt; rewrite_header(&h, &Action::StripVlan), untagged);
-    expect_eq!(rt; rewrite_header(&h, &vid), Header12 { dl_vlan: 5, ..h });
-    expect_eq!(rt;
+    expect_eq!(rewrite_header(&h, &Action::StripVlan), untagged);
+    expect_eq!(rewrite_header(&h, &vid), Header12 { dl_vlan: 5, ..h });
+    expect_eq!(
         rewrite_header(&untagged, &vid),
         Header12 {
             dl_vlan: 5,
             ..untagged
         }
     );
-    expect_eq!(rt;
+    expect_eq!(
         rewrite_header(&untagged, &pcp),
         Header12 {
             dl_vlan: 0,
@@ -210,10 +213,11 @@ fn headers_are_rewritten(rt: HostRuntime) {
             ..h
         }
     );
+    Ok(())
 }
 
 #[test]
-fn network_fields_and_ports_are_rewritten_where_they_are(rt: HostRuntime) {
+fn network_fields_and_ports_are_rewritten_where_they_are(_rt: HostRuntime) -> Result<(), Fail> {
     let h = FIRST_HEADER;
     let arp = Header12 {
         dl_type: 0x0806,
@@ -221,10 +225,11 @@ fn network_fields_and_ports_are_rewritten_where_they_are(rt: HostRuntime) {
     };
     let from = Header12 { nw_src: 9, ..h };
     let to = Header12 { tp_dst: 9, ..h };
-    expect_eq!(rt; rewrite_header(&h, &Action::SetNwSrc(9)), from);
-    expect_eq!(rt; rewrite_header(&arp, &Action::SetNwSrc(9)), arp);
-    expect_eq!(rt; rewrite_header(&h, &Action::SetTpDst(9)), to);
-    expect_eq!(rt; rewrite_header(&arp, &Action::SetTpDst(9)), arp);
+    expect_eq!(rewrite_header(&h, &Action::SetNwSrc(9)), from);
+    expect_eq!(rewrite_header(&arp, &Action::SetNwSrc(9)), arp);
+    expect_eq!(rewrite_header(&h, &Action::SetTpDst(9)), to);
+    expect_eq!(rewrite_header(&arp, &Action::SetTpDst(9)), arp);
+    Ok(())
 }
 
 /// Whether what two matches share agrees with plain membership of this header, and of one that is in
@@ -270,7 +275,7 @@ fn is_covered(m: &Match, action: &Action, h: &Header12) -> bool
 }
 
 #[test]
-fn sets_and_covers_agree_with_membership(rt: HostRuntime) {
+fn sets_and_covers_agree_with_membership(_rt: HostRuntime) -> Result<(), Fail> {
     let mut draws = Draws::new(1);
     let mut h = FIRST_HEADER;
     for _ in 0..4000 {
@@ -279,7 +284,8 @@ fn sets_and_covers_agree_with_membership(rt: HostRuntime) {
         let b = match_of(&draws.pattern_near(&h));
         h = draws.changed(&h);
         let action = draws.action();
-        expect!(rt; agree(&a, &b, &h), (a, b, h));
-        expect!(rt; is_covered(&a, &action, &h), (a, action, h));
+        expect!(agree(&a, &b, &h), (a, b, h));
+        expect!(is_covered(&a, &action, &h), (a, action, h));
     }
+    Ok(())
 }

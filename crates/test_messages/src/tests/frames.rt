@@ -43,7 +43,7 @@ fn a_bad_length_ends_the_stream(rt: HostRuntime) -> Result<(), Fail> {
 fn pieces_of_any_size_give_the_same_frames(rt: HostRuntime) -> Result<(), Fail> {
     for size in 1..=20 {
         let given = frames_in_pieces(rt.alloc(), STREAM, size)?;
-        expect_eq!(rt; given.as_slice(), STREAM, size);
+        expect_eq!(given.as_slice(), STREAM, size);
     }
     Ok(())
 }
@@ -69,16 +69,16 @@ fn the_largest_frame_is_made_and_given(rt: HostRuntime) -> Result<(), Fail> {
     let alloc = rt.alloc();
     let body = vec![in alloc; 0x5a; 65527]?;
     let largest = message(alloc, 4, 9, &body)?;
-    expect_eq!(rt; largest.as_slice().len(), 65535);
+    expect_eq!(largest.as_slice().len(), 65535);
     let wanted = Head {
         version: 1,
         kind: 4,
         length: 65535,
         xid: 9,
     };
-    expect_eq!(rt; largest.head(), wanted);
+    expect_eq!(largest.head(), wanted);
     let given = frames_in_pieces(alloc, largest.as_slice(), 40000)?;
-    expect_eq!(rt; given.as_slice(), largest.as_slice());
+    expect_eq!(given.as_slice(), largest.as_slice());
     Ok(())
 }
 
@@ -111,11 +111,11 @@ fn an_error_carries_64_bytes(rt: HostRuntime) -> Result<(), Fail> {
 fn a_message_begins_with_its_header(rt: HostRuntime) -> Result<(), Fail> {
     let head = [1, 12, 0, 10, 0x01, 0x02, 0x03, 0x04];
     let begun = begin(rt.alloc(), 12, 0x01020304, 2)?;
-    expect_eq!(rt; begun.as_slice(), head.as_slice());
+    expect_eq!(begun.as_slice(), head.as_slice());
     let whole = message(rt.alloc(), 12, 0x01020304, &[8, 9])?;
-    expect_eq!(rt; &whole.as_slice()[..8], head.as_slice());
-    expect_eq!(rt; whole.body(), [8, 9].as_slice());
-    expect_eq!(rt; whole.into_vec().len(), 10);
+    expect_eq!(&whole.as_slice()[..8], head.as_slice());
+    expect_eq!(whole.body(), [8, 9].as_slice());
+    expect_eq!(whole.into_vec().len(), 10);
     Ok(())
 }
 

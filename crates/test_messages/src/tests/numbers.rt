@@ -15,6 +15,6 @@ fn numbers_are_written_high_byte_first(rt: HostRuntime) -> Result<(), Fail> {
     let expected = [
         1, 2, 3, 4, 5, 6, 7, 8, 9, 10, 11, 12, 13, 14, 15, 16, 17, 18, 19, 20, 21,
     ];
-    expect_eq!(rt; out.as_slice(), expected.as_slice());
+    expect_eq!(out.as_slice(), expected.as_slice());
     Ok(())
 }

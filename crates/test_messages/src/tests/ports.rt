@@ -92,17 +92,18 @@ fn features_have_whole_ports(rt: HostRuntime) -> Result<(), Fail> {
 }
 
 #[test]
-fn a_port_has_a_number_and_a_configuration(rt: HostRuntime) {
+fn a_port_has_a_number_and_a_configuration(_rt: HostRuntime) -> Result<(), Fail> {
     let mut raw = [0; 48];
     raw[1] = 7;
     raw[27] = 0x51;
     let port = Port::of(raw);
-    expect_eq!(rt; (port.number(), port.config()), (7, 0x51));
-    expect_eq!(rt; port.config() & NO_FLOOD, 16);
+    expect_eq!((port.number(), port.config()), (7, 0x51));
+    expect_eq!(port.config() & NO_FLOOD, 16);
     raw = [0; 48];
     raw[0] = 0xff;
     raw[1] = 0xfe;
-    expect_eq!(rt; Port::of(raw).config() & NO_FLOOD, 0);
+    expect_eq!(Port::of(raw).config() & NO_FLOOD, 0);
+    Ok(())
 }
 
 /// Port 2 was modified; what stands in the padding doesn't count.

@@ -203,7 +203,7 @@ fn beginning_of_a_message_is_no_message(rt: HostRuntime) -> Result<(), Fail> {
     for line in MESSAGES.lines() {
         let message = bytes(alloc, &[line])?;
         for length in 0..message.len() {
-            expect!(rt; needs_more(alloc, &message[..length])?, line);
+            expect!(needs_more(alloc, &message[..length])?, line);
         }
     }
     Ok(())

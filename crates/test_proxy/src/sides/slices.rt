@@ -15,7 +15,6 @@ use port_view::PortView;
 use samples::{frame, three_ports};
 use slice_side::{Change, Reaction, apply, go_down, react, reserve};
 use std::alloc::{AllocError, Global};
-use std::process::Abort;
 use std::test::Fail;
 
 /// A switch with three ports and its own, and one slice on it.
@@ -91,12 +90,12 @@ fn told(alloc: Global, reaction: &Reaction) -> Result<String, AllocError> {
 }
 
 /// Each message is answered as its row says. A row is a line: what the controller sends, and what is to be told.
-fn expect_rows(rt: &impl Abort, alloc: Global, rows: &str) -> Result<(), AllocError> {
+fn expect_rows(alloc: Global, rows: &str) -> Result<(), Fail> {
     let bench = set_up(alloc)?;
     for row in rows.lines() {
         let (message, wanted) = row.split_once(" => ").ok_or(AllocError)?;
         let reaction = bench.hear(alloc, &frame(alloc, &[message])?, 0)?;
-        expect_eq!(*rt; told(alloc, &reaction)?.as_str(), wanted, message);
+        expect_eq!(told(alloc, &reaction)?.as_str(), wanted, message);
     }
     Ok(())
 }
@@ -133,7 +132,7 @@ const ANSWER_ROWS: &str = "\
 
 #[test]
 fn each_message_is_answered_by_its_first_line(rt: HostRuntime) -> Result<(), Fail> {
-    expect_rows(&rt, rt.alloc(), ANSWER_ROWS)?;
+    expect_rows(rt.alloc(), ANSWER_ROWS)?;
     Ok(())
 }
 
@@ -144,7 +143,7 @@ const FEATURES_ROW: &str = "\
 
 #[test]
 fn features_are_those_of_the_slice(rt: HostRuntime) -> Result<(), Fail> {
-    expect_rows(&rt, rt.alloc(), FEATURES_ROW)?;
+    expect_rows(rt.alloc(), FEATURES_ROW)?;
     Ok(())
 }
 
@@ -173,8 +172,8 @@ fn what_was_set_lasts_as_long_as_the_connection(rt: HostRuntime) -> Result<(), F
     let is_set = bench.is_settled(alloc, "0109000c0000000100000010", 7, (16, 7));
     let is_kept = bench.is_settled(alloc, "0103000800000001", 5, (16, 7));
     let is_left = bench.is_left(128, 7);
-    expect!(rt; is_set, "a setting");
-    expect!(rt; is_kept, "an echo after it");
-    expect!(rt; is_left, "the end of the connection");
+    expect!(is_set, "a setting");
+    expect!(is_kept, "an echo after it");
+    expect!(is_left, "the end of the connection");
     Ok(())
 }

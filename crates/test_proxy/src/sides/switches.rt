@@ -9,7 +9,6 @@ use port_view::PortView;
 use rule_index::RuleIndex;
 use samples::{frame, three_ports};
 use std::alloc::{AllocError, Global};
-use std::process::Abort;
 use std::test::Fail;
 use switch_side::{Dispatch, react};
 
@@ -76,13 +75,7 @@ fn written_out(alloc: Global, digits: &str) -> Result<String, AllocError> {
 
 /// Each row is told as it says, where each slice's connection is up or not. A row is a line: what the switch sends, and
 /// what is to be told.
-fn expect_rows(
-    rt: &impl Abort,
-    alloc: Global,
-    rules: &[RuleRow],
-    up: [bool; 2],
-    rows: &str,
-) -> Result<(), AllocError> {
+fn expect_rows(alloc: Global, rules: &[RuleRow], up: [bool; 2], rows: &str) -> Result<(), Fail> {
     let policy = policy_of(alloc, rules)?;
     let states = states(alloc, &policy, up)?;
     for row in rows.lines() {
@@ -90,7 +83,7 @@ fn expect_rows(
         let message = frame(alloc, &[written_out(alloc, sent)?.as_str()])?;
         let answer = told(alloc, &answer(alloc, &policy, &states, &message)?)?;
         let wanted = written_out(alloc, wanted)?;
-        expect_eq!(*rt; answer.as_str(), wanted.as_str(), sent);
+        expect_eq!(answer.as_str(), wanted.as_str(), sent);
     }
     Ok(())
 }
@@ -112,7 +105,7 @@ const MESSAGE_ROWS: &str = "\
 
 #[test]
 fn each_message_goes_where_it_concerns_somebody(rt: HostRuntime) -> Result<(), Fail> {
-    expect_rows(&rt, rt.alloc(), TWO_RULES, [true, true], MESSAGE_ROWS)?;
+    expect_rows(rt.alloc(), TWO_RULES, [true, true], MESSAGE_ROWS)?;
     Ok(())
 }
 
@@ -130,7 +123,7 @@ const SWITCH_ROWS: &str = "\
 #[test]
 fn the_switch_is_answered_itself(rt: HostRuntime) -> Result<(), Fail> {
     let rules = &[(100, None, 80, 0, 0), (50, None, 22, 1, 0)];
-    expect_rows(&rt, rt.alloc(), rules, [true, true], SWITCH_ROWS)?;
+    expect_rows(rt.alloc(), rules, [true, true], SWITCH_ROWS)?;
     Ok(())
 }
 
@@ -162,7 +155,7 @@ const READER_ROWS: &[([bool; 2], &str)] = &[
 fn readers_are_told_where_they_are_up(rt: HostRuntime) -> Result<(), Fail> {
     let rules = &[(100, None, 80, 1, 0b01), (100, None, 80, 1, 0)];
     for (up, row) in READER_ROWS {
-        expect_rows(&rt, rt.alloc(), rules, *up, row)?;
+        expect_rows(rt.alloc(), rules, *up, row)?;
     }
     Ok(())
 }
@@ -193,6 +186,6 @@ fn cut_rows(alloc: Global) -> Result<String, AllocError> {
 fn a_packet_has_a_writer_as_soon_as_its_port_is_there(rt: HostRuntime) -> Result<(), Fail> {
     let rows = cut_rows(rt.alloc())?;
     let rules = &[(100, None, 80, 0, 0)];
-    expect_rows(&rt, rt.alloc(), rules, [true, true], rows.as_str())?;
+    expect_rows(rt.alloc(), rules, [true, true], rows.as_str())?;
     Ok(())
 }

@@ -7,7 +7,6 @@ use of10_ctl::{Frame, message};
 use samples::{TO_TCP_80, bytes};
 use slice_side::Reaction;
 use std::alloc::{AllocError, Global};
-use std::process::Abort;
 use std::test::Fail;
 
 /// A message that is sent on, and how it names the length of a part.
@@ -123,12 +122,12 @@ fn is_answered(
 }
 
 /// Each message is answered as it is to be.
-fn expect_answers(rt: &impl Abort, alloc: Global, whole: &Whole) -> Result<(), AllocError> {
+fn expect_answers(alloc: Global, whole: &Whole) -> Result<(), Fail> {
     let bench = set_up(alloc)?;
     for size in 8..whole.size {
         for listed in 0..whole.listed {
             let is_so = is_answered(alloc, &bench, whole, size, listed)?;
-            expect_case(rt, alloc, is_so, size, listed);
+            expect_case(alloc, is_so, size, listed)?;
         }
     }
     Ok(())
@@ -142,24 +141,19 @@ fn case_name(alloc: Global, size: u16, listed: u16) -> Result<String, AllocError
 }
 
 /// It is so of the message that is cut so.
-fn expect_case(rt: &impl Abort, alloc: Global, is_so: bool, size: u16, listed: u16) {
-    if is_so {
-        return;
+fn expect_case(alloc: Global, is_so: bool, size: u16, listed: u16) -> Result<(), Fail> {
+    if !is_so {
+        expect!(is_so, case_name(alloc, size, listed)?);
     }
-    match case_name(alloc, size, listed) {
-        Ok(name) => expect!(*rt; is_so, name),
-        Err(_) => expect!(*rt; is_so, "a case"),
-    }
+    Ok(())
 }
 
 #[test]
 fn packet_outs_of_each_length_are_refused_or_sent(rt: HostRuntime) -> Result<(), Fail> {
-    expect_answers(&rt, rt.alloc(), &PACKET)?;
-    Ok(())
+    expect_answers(rt.alloc(), &PACKET)
 }
 
 #[test]
 fn flow_mods_of_each_length_are_refused_or_sent(rt: HostRuntime) -> Result<(), Fail> {
-    expect_answers(&rt, rt.alloc(), &ADD)?;
-    Ok(())
+    expect_answers(rt.alloc(), &ADD)
 }
