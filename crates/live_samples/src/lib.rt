@@ -5,6 +5,7 @@
 #![tactic(auto)]
 
 mod desks;
+pub mod devices;
 mod outside;
 mod spawner;
 mod traffic;

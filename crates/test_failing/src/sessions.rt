@@ -1,21 +1,20 @@
 ghost use Rattle.std.specs.Arc.{arc_value};
 ghost use Rattle.turn_desk.specs.Seats.{IsSeatOf, SameDesk};
 
-use crate::devices::{
-    ALICE, BOB, Device, GREETING, IN, Long, NOTHING, OUT, SWITCH, Stream, TO_22, TO_80, Told,
-    UNANSWERED, told_to_all,
-};
 use crate::gate::Hold;
 use crate::notes::{Mark, Notes};
 use crate::session_threads::{End, Job, Part, Session};
 use crate::sinks::{Watched, link};
 use expectations::{expect, expect_eq};
 use fv_live::{Host, Links, MemoryDialer, MemorySource};
+use live_samples::devices::{
+    ALICE, BOB, Device, GREETING, IN, Long, NOTHING, OUT, SWITCH, Stream, TO_22, TO_80, Told,
+    UNANSWERED, told_to_all,
+};
 use live_samples::{FEATURES, LANE, Sent, nothing};
 use live_session::{DeskObject, ReaderEnd, Side, SliceEnd, WriterEnd};
 use std::alloc::{AllocError, Global};
 use std::net::{Net, TcpListener, TcpStream};
-use std::process::Abort;
 use std::sync::{Arc, Wait};
 use std::test::Fail;
 use std::thread;
@@ -424,15 +423,15 @@ fn come_of<R: Host + Net<Listener = TcpListener, Stream = TcpStream> + Send + 's
 }
 
 // Runs a case, and compares what comes of it.
-fn run<R: Host + Net<Listener = TcpListener, Stream = TcpStream> + Abort + Send + 'static>(
+fn run<R: Host + Net<Listener = TcpListener, Stream = TcpStream> + Send + 'static>(
     rt: R,
     alloc: Global,
     case: &Case,
 ) -> Result<(), Fail> {
     let outcome = come_of(rt, alloc, case)?;
-    expect_eq!(rt; outcome.ends.as_slice(), case.ends.as_slice(), "ends");
-    expect_eq!(rt; outcome.told, [Told::All; 3], "sent");
-    expect!(rt; outcome.is_right, "what came");
+    expect_eq!(outcome.ends.as_slice(), case.ends.as_slice(), "ends");
+    expect_eq!(outcome.told, [Told::All; 3], "sent");
+    expect!(outcome.is_right, "what came");
     Ok(())
 }
 

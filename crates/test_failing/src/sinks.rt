@@ -2,10 +2,10 @@
 
 ghost use Rattle.std.specs.Prelude.{◌≡◌, ◌≤◌, ◌<◌, None, length, IfOk};
 
-use crate::devices::Device;
 use crate::notes::{Mark, Notes};
 use fv_base::{Failed, Sink, one_more};
 use fv_live::{FailingCalls, HeldSink, Link, MemorySource, SharedSink};
+use live_samples::devices::Device;
 use live_samples::{ALICE, BOB, Sent};
 use live_session::Side;
 use std::alloc::{AllocError, Global};

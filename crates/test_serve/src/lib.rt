@@ -1,4 +1,5 @@
-//! Whole calls of `serve` over switches and controllers in memory, on threads. There are tests here alone.
+//! Whole calls of `serve` over switches and controllers in memory, on threads: sessions beside each other. There are
+//! tests here alone.
 #![tactic(auto)]
 
 #[cfg(test)]
@@ -7,7 +8,3 @@ mod gate;
 mod many_sessions;
 #[cfg(test)]
 mod sessions;
-#[cfg(test)]
-mod statuses;
-#[cfg(test)]
-mod threads;

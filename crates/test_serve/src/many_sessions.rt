@@ -1,13 +1,14 @@
 ghost use Rattle.std.specs.Prelude.{◌≡◌, None, IfOk};
 
+use expectations::{expect, expect_eq};
 use fv_base::{Failed, MemoryFiles, MemorySink};
-use fv_live::{Host, Links, MemorySource, MemoryWires, SharedSink, Wires, Work};
+use fv_live::{Host, Links, MemorySource, MemoryWires, SharedSink, Wires};
 use live_samples::{ClosureSpawner, POLICY, SWITCH, Sent, Still, nothing, source, words};
-use live_serve::{Gate, SessionWork, Side, serve};
+use live_serve::{Gate, SessionWork, Side};
+use serve_samples::{begin, status};
 use std::alloc::{AllocError, Global};
 use std::collections::VecDeque;
 use std::net::{Net, TcpListener, TcpStream};
-use std::process::Abort;
 use std::sync::atomic::{AtomicU64, Ordering};
 use std::sync::{Arc, Wait};
 use std::test::Fail;
@@ -157,34 +158,23 @@ fn one_session_too_many_is_closed_and_later_ones_are_served(rt: HostRuntime) -> 
     let mut spawner = ClosureSpawner::new(
         alloc,
         Vec::new(alloc),
-        |work: SessionWork<_, Still, Held>| {
-            let ended = Arc::try_clone(&ended).ok()?;
-            thread::spawn(&rt, move || {
-                work.run(&rt);
-                ended.fetch_add(1, Ordering::SeqCst);
-            })
-            .ok()
-        },
+        |work: SessionWork<_, Still, Held>| begin(rt, &ended, work),
     );
     let mut err = MemorySink::new(alloc);
     let words = words(alloc, &["serve", "policy", "here", "19"])?;
-    let status = serve(
+    let status = status(
         &rt,
         alloc,
         &words,
         &mut files,
         &mut wires,
-        &Still,
         &gate,
         &mut spawner,
         &mut err,
     );
-    assert_eq!(rt; status, 0);
-    let works = ended.load(Ordering::SeqCst);
-    assert_eq!(rt; works, WORKS_OF_ALL);
-    let Some(one_too_many) = switches.get(SESSIONS) else {
-        panic!(rt; "no seventeenth connection");
-    };
-    assert!(rt; one_too_many.so_far(&rt, alloc)?.is_empty());
+    expect_eq!(status, 0);
+    expect_eq!(ended.load(Ordering::SeqCst), WORKS_OF_ALL);
+    let one_too_many = switches.get(SESSIONS).ok_or("no seventeenth connection")?;
+    expect!(one_too_many.so_far(&rt, alloc)?.is_empty());
     Ok(())
 }

@@ -1,13 +1,15 @@
 ghost use Rattle.std.specs.Prelude.{◌≡◌, None, IfOk};
 
 use crate::gate::{Order, TO_ALICE, TO_BOB};
+use expectations::{expect, expect_eq};
 use fv_base::{MemoryFiles, MemorySink};
 use fv_live::{Links, MemorySource, MemoryWires, SharedSink, Work};
 use live_samples::{
     ALICE, BOB, ClosureSpawner, LANE, POLICY, SWITCH, Sent, Still, all_hold, link, nothing, source,
     words,
 };
-use live_serve::{SessionWork, serve};
+use live_serve::SessionWork;
+use serve_samples::status;
 use std::alloc::{AllocError, Global};
 use std::collections::VecDeque;
 use std::sync::{Arc, Wait};
@@ -64,23 +66,22 @@ fn two_switches_are_served_beside_each_other(rt: HostRuntime) -> Result<(), Fail
     );
     let mut err = MemorySink::new(alloc);
     let words = words(alloc, &["serve", "policy", "here", "2"])?;
-    let status = serve(
+    let status = status(
         &rt,
         alloc,
         &words,
         &mut files,
         &mut wires,
-        &Still,
         &gate,
         &mut spawner,
         &mut err,
     );
-    assert_eq!(rt; status, 0);
-    assert!(rt; err.as_slice().is_empty());
-    assert_eq!(rt; gate.held_too_long(), 0);
-    assert!(rt; all_hold(&rt, alloc, &switches, &bytes(alloc, &LANE)?));
-    assert!(rt; all_hold(&rt, alloc, &alice, &TO_ALICE[0]));
-    assert!(rt; all_hold(&rt, alloc, &alice, &TO_ALICE[1]));
-    assert!(rt; all_hold(&rt, alloc, &bob, &TO_BOB));
+    expect_eq!(status, 0);
+    expect!(err.as_slice().is_empty());
+    expect_eq!(gate.held_too_long(), 0);
+    expect!(all_hold(&rt, alloc, &switches, &bytes(alloc, &LANE)?));
+    expect!(all_hold(&rt, alloc, &alice, &TO_ALICE[0]));
+    expect!(all_hold(&rt, alloc, &alice, &TO_ALICE[1]));
+    expect!(all_hold(&rt, alloc, &bob, &TO_BOB));
     Ok(())
 }

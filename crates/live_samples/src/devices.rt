@@ -2,8 +2,9 @@
 
 ghost use Rattle.std.specs.Prelude.{◌≡◌, IfOk, vec_len};
 
+use crate::outside::{FEATURES, LANE};
+use crate::traffic::Sent;
 use fv_live::MemorySource;
-use live_samples::{FEATURES, LANE, Sent};
 use of10_ctl::message;
 use std::alloc::{AllocError, Global};
 use std::sync::Wait;

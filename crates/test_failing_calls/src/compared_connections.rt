@@ -3,9 +3,9 @@
 
 ghost use Rattle.std.specs.Prelude.{None};
 
-use crate::devices::Device;
 use fv_base::{Failed, Sink, one_more};
 use fv_live::{Link, MemorySource, Source};
+use live_samples::devices::Device;
 use std::alloc::{AllocError, Global};
 use std::sync::Arc;
 use std::sync::atomic::{AtomicBool, AtomicU64, Ordering};

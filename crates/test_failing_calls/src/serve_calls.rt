@@ -1,18 +1,18 @@
 ghost use Rattle.std.specs.Prelude.{◌≡◌, None, IfOk};
 
 use crate::compared_connections::{Heard, Line, Port, TURNS, link};
-use crate::devices::{
+use expectations::{expect, expect_eq};
+use fv_base::{MemoryFiles, MemorySink, Words};
+use fv_live::{Host, Links, MemoryWires};
+use live_samples::devices::{
     ALICE, BOB, Device, GREETING, IN, Long, NOTHING, OUT, SWITCH, Stream, TO_22, UNANSWERED,
 };
-use crate::threads::begin;
-use fv_base::{MemoryFiles, MemorySink, Words};
-use fv_live::{Host, Links, MemoryWires, Spawner};
 use live_samples::{ClosureSpawner, FEATURES, LANE, POLICY, Still, words};
-use live_serve::{Gate, SessionWork, Side, serve};
+use live_serve::{Gate, SessionWork, Side};
+use serve_samples::{begin, status};
 use std::alloc::{AllocError, Global};
 use std::collections::VecDeque;
 use std::net::{Net, TcpListener, TcpStream};
-use std::process::Abort;
 use std::sync::Arc;
 use std::sync::atomic::{AtomicU64, Ordering};
 use std::test::Fail;
@@ -301,36 +301,14 @@ fn prepared(
     })
 }
 
-// Its own function, which knows nothing of the spawner's closure.
-fn status<R: Host + Net<Listener = TcpListener, Stream = TcpStream>, P: Spawner<CallWork>>(
-    rt: &R,
-    alloc: Global,
-    call: &mut Call,
-    spawner: &mut P,
-) -> u8
-    requires silent { call.old.wires.place ≡ None }
-    requires can { P.can_start spawner.old }
-{
-    serve(
-        rt,
-        alloc,
-        &call.words,
-        &mut call.files,
-        &mut call.wires,
-        &Still,
-        &call.gate,
-        spawner,
-        &mut call.err,
-    )
-}
-
 // Each was sent what it is to be sent, and all works have ended.
-fn expect_served(rt: &impl Abort, case: &Case, seen: &Seen, call: &Call, status: u8) {
-    assert_eq!(rt; status, 0);
-    assert!(rt; call.err.as_slice().is_empty());
-    assert!(rt; seen.is_none_held());
-    assert!(rt; seen.are_sent(case.sent));
-    assert!(rt; seen.has(Until::Ended(WORKS)));
+fn expect_served(case: &Case, seen: &Seen, call: &Call, status: u8) -> Result<(), Fail> {
+    expect_eq!(status, 0);
+    expect!(call.err.as_slice().is_empty());
+    expect!(seen.is_none_held());
+    expect!(seen.are_sent(case.sent));
+    expect!(seen.has(Until::Ended(WORKS)));
+    Ok(())
 }
 
 #[test]
@@ -343,9 +321,17 @@ fn controller_that_cannot_be_dialled_stops_no_other(rt: HostRuntime) -> Result<(
         Vec::new(alloc),
         |work: CallWork| begin(rt, &seen.ended, work),
     );
-    let status = status(&rt, alloc, &mut call, &mut spawner);
-    expect_served(&rt, &ALICE_IS_NOT_THERE, &seen, &call, status);
-    Ok(())
+    let status = status(
+        &rt,
+        alloc,
+        &call.words,
+        &mut call.files,
+        &mut call.wires,
+        &call.gate,
+        &mut spawner,
+        &mut call.err,
+    );
+    expect_served(&ALICE_IS_NOT_THERE, &seen, &call, status)
 }
 
 #[test]
@@ -358,7 +344,15 @@ fn connection_of_a_switch_that_takes_nothing_is_ended(rt: HostRuntime) -> Result
         Vec::new(alloc),
         |work: CallWork| begin(rt, &seen.ended, work),
     );
-    let status = status(&rt, alloc, &mut call, &mut spawner);
-    expect_served(&rt, &LANE_IS_CHOKED, &seen, &call, status);
-    Ok(())
+    let status = status(
+        &rt,
+        alloc,
+        &call.words,
+        &mut call.files,
+        &mut call.wires,
+        &call.gate,
+        &mut spawner,
+        &mut call.err,
+    );
+    expect_served(&LANE_IS_CHOKED, &seen, &call, status)
 }

@@ -1,14 +1,14 @@
 ghost use Rattle.std.specs.Prelude.{◌≡◌, None, IfOk};
 
 use crate::threads::begin;
+use expectations::expect_eq;
 use fv_base::{Failed, MemoryFiles, MemorySink, Words};
-use fv_live::{Host, Links, MemoryWires, Source, Spawner};
+use fv_live::{Links, MemoryWires, Source};
 use live_samples::{ClosureSpawner, POLICY, Still, words};
-use live_serve::{OpenGate, SessionWork, serve};
+use live_serve::{OpenGate, SessionWork};
+use serve_samples::status;
 use std::alloc::{AllocError, Global};
 use std::collections::VecDeque;
-use std::net::{Net, TcpListener, TcpStream};
-use std::process::Abort;
 use std::sync::Arc;
 use std::sync::atomic::{AtomicBool, AtomicU64, Ordering};
 use std::test::Fail;
@@ -239,48 +239,18 @@ impl Call {
         })
     }
 
-    // Its own function, which knows nothing of the spawner's closure.
-    fn status<R: Host + Net<Listener = TcpListener, Stream = TcpStream>, P: Spawner<CallWork>>(
-        &mut self,
-        rt: &R,
-        alloc: Global,
-        spawner: &mut P,
-    ) -> u8
-        requires silent { self.old.wires.place ≡ None }
-        requires can { P.can_start spawner.old }
-    {
-        serve(
-            rt,
-            alloc,
-            &self.words,
-            &mut self.files,
-            &mut self.wires,
-            &Still,
-            &OpenGate,
-            spawner,
-            &mut self.err,
-        )
-    }
-
     // It ended so, by when so many works had run to their ends.
-    fn expect(&self, rt: &impl Abort, case: &Case, status: u8, works: u64) {
-        let about = case.words;
-        assert_eq!(rt; status, case.status, "status: {about:?}");
-        assert_eq!(rt;
-            self.err.as_slice(),
-            case.line.as_bytes(),
-            "line: {about:?}"
-        );
-        assert_eq!(rt; works, case.works, "works: {about:?}");
-        assert_eq!(rt; self.wires.faults("here"), case.faults, "faults: {about:?}");
+    fn expect(&self, case: &Case, status: u8, works: u64) -> Result<(), Fail> {
+        let words = case.words;
+        expect_eq!(status, case.status, ("status", words));
+        expect_eq!(self.err.as_slice(), case.line.as_bytes(), ("line", words));
+        expect_eq!(works, case.works, ("works", words));
+        expect_eq!(self.wires.faults("here"), case.faults, ("faults", words));
         for (place, heard) in self.heard.iter().enumerate() {
             let is_heard = heard.load(Ordering::SeqCst);
-            assert_eq!(rt;
-                is_heard,
-                place < case.switches,
-                "switch {place}: {about:?}"
-            );
+            expect_eq!(is_heard, place < case.switches, ("switch", place, words));
         }
+        Ok(())
     }
 }
 
@@ -296,8 +266,17 @@ fn calls_end_with_their_statuses_and_lines(rt: HostRuntime) -> Result<(), Fail> 
             |work: CallWork| begin(rt, &ended, work),
         );
         let mut call = Call::new(alloc, &case)?;
-        let status = call.status(&rt, alloc, &mut spawner);
-        call.expect(&rt, &case, status, ended.load(Ordering::SeqCst));
+        let status = status(
+            &rt,
+            alloc,
+            &call.words,
+            &mut call.files,
+            &mut call.wires,
+            &OpenGate,
+            &mut spawner,
+            &mut call.err,
+        );
+        call.expect(&case, status, ended.load(Ordering::SeqCst))?;
     }
     Ok(())
 }
