@@ -9,6 +9,7 @@ use crate::sockets::Sockets;
 use crate::start;
 use crate::stream::Stream;
 use crate::threads::{Done, ThreadSpawner};
+use expectations::expect_eq;
 use fv_base::{Files, LoadFault, MemorySink, Sink, load_file, put_all};
 use fv_live::{Clock, Dialer, Host, Source, Spawner, Wires, Work};
 use std::alloc::Global;
@@ -46,15 +47,15 @@ fn disk_loads_whole_files(rt: HostRuntime) -> Result<(), Fail> {
     let bytes = load_file(alloc, &mut disk, path.as_str(), 8)
         .ok()
         .ok_or("the file is read")?;
-    assert_eq!(rt; bytes.as_slice(), TEXT);
-    assert_eq!(rt;
+    expect_eq!(bytes.as_slice(), TEXT);
+    expect_eq!(
         load_file(alloc, &mut disk, path.as_str(), 7).err(),
         Some(LoadFault::TooLarge)
     );
 
     fs::remove_file(&rt, path.as_str())?;
     for nothing in [path.as_str(), "/"] {
-        assert_eq!(rt;
+        expect_eq!(
             load_file(alloc, &mut disk, nothing, 8).err(),
             Some(LoadFault::ReadFault)
         );
@@ -88,10 +89,10 @@ fn disk_reads_parts_in_any_order(rt: HostRuntime) -> Result<(), Fail> {
     let mut disk = Disk::new(&rt);
     let mut part = [0u8; 2];
     for (from, count) in PARTS {
-        assert_eq!(rt;
+        expect_eq!(
             disk.read(path.as_str(), from, &mut part).ok(),
             Some(count),
-            "from {from}"
+            from
         );
         let there = TEXT.get(from as usize..).unwrap_or(b"");
         let came = part.get(..count).unwrap_or(b"");
@@ -99,14 +100,14 @@ fn disk_reads_parts_in_any_order(rt: HostRuntime) -> Result<(), Fail> {
     }
     // The other file is read first from where the one before was read to.
     for (from, bytes) in [(2, b"t\n"), (4, b"2n"), (0, b"1s")] {
-        assert_eq!(rt; disk.read(other.as_str(), from, &mut part).ok(), Some(2));
-        assert_eq!(rt; &part, bytes);
+        expect_eq!(disk.read(other.as_str(), from, &mut part).ok(), Some(2));
+        expect_eq!(&part, bytes);
     }
 
     // A file stays open for a read that goes on, though its name is gone.
     fs::remove_file(&rt, other.as_str())?;
-    assert_eq!(rt; disk.read(other.as_str(), 2, &mut part).ok(), Some(2));
-    assert_eq!(rt; &part, b"t\n");
+    expect_eq!(disk.read(other.as_str(), 2, &mut part).ok(), Some(2));
+    expect_eq!(&part, b"t\n");
     fs::remove_file(&rt, path.as_str())?;
     Ok(())
 }
@@ -117,12 +118,12 @@ fn streams_write_what_is_put(rt: HostRuntime) -> Result<(), Fail> {
     let mut out = Stream::new(BufWriter::new(rt.alloc(), fs::create(&rt, path.as_str())?)?);
     assert!(rt; put_all(&mut out, TEXT).is_ok());
     assert!(rt; out.finish().is_ok());
-    assert_eq!(rt; fs::read(&rt, path.as_str())?.as_slice(), TEXT);
+    expect_eq!(fs::read(&rt, path.as_str())?.as_slice(), TEXT);
     fs::remove_file(&rt, path.as_str())?;
 
     let mut room = [0u8; 5];
     let mut narrow = Stream::new(room.as_mut_slice());
-    assert_eq!(rt; narrow.put(TEXT).ok(), Some(5));
+    expect_eq!(narrow.put(TEXT).ok(), Some(5));
     assert!(rt; narrow.put(&TEXT[5..]).is_err());
 
     let mut room = [0u8; 5];
@@ -147,13 +148,13 @@ fn bytes_cross_a_connection_until_its_sink_is_dropped(rt: HostRuntime) -> Result
     let (mut here, mut here_sink) = wires.accept(&rt).ok().ok_or("accepted")?;
 
     let mut piece = [0; 8];
-    assert_eq!(rt; here_sink.put(b"abc"), Ok(3));
-    assert_eq!(rt; there.take(&mut piece), Ok(3));
-    assert_eq!(rt; piece.starts_with(b"abc"), true);
+    expect_eq!(here_sink.put(b"abc"), Ok(3));
+    expect_eq!(there.take(&mut piece), Ok(3));
+    expect_eq!(piece.starts_with(b"abc"), true);
 
     drop(here_sink);
-    assert_eq!(rt; there.take(&mut piece), Ok(0));
-    assert_eq!(rt; here.take(&mut piece), Ok(0));
+    expect_eq!(there.take(&mut piece), Ok(0));
+    expect_eq!(here.take(&mut piece), Ok(0));
     drop(there_sink);
     Ok(())
 }
@@ -190,7 +191,7 @@ fn clock_tells_milliseconds_since_1970(rt: HostRuntime) -> Result<(), Fail> {
     let mut clock = SystemClock::new(&rt);
     let moment = clock.now();
     assert!(rt; moment > YEAR_2024 && moment < 2 * YEAR_2024);
-    assert_eq!(rt; SystemClock::new(Broken).now(), 0);
+    expect_eq!(SystemClock::new(Broken).now(), 0);
     Ok(())
 }
 
@@ -222,7 +223,7 @@ fn each_work_runs_on_a_thread(rt: HostRuntime) -> Result<(), Fail> {
         assert!(rt; spawner.start(&rt, AddOne(sum.clone()?)).is_ok());
     }
     spawner.finish(&rt);
-    assert_eq!(rt; sum.load(Ordering::SeqCst), 20);
+    expect_eq!(sum.load(Ordering::SeqCst), 20);
     Ok(())
 }
 
@@ -269,6 +270,13 @@ const ANSWERS: [(&str, usize, u8, &str, &str); 17] = [
     ("serve @policy nowhere 0", 2048, 1, "", USAGE),
 ];
 
+// What the program answers without threads. Its own function, so that the test knows nothing of its contract.
+fn answered(rt: &HostRuntime, words: &[String], room: &mut [u8], err: &mut MemorySink) -> u8 {
+    let mut spawner = ThreadSpawner::new(rt.alloc(), no_thread);
+    let mut disk = Disk::new(rt);
+    answer(rt, rt.alloc(), words, &mut disk, &mut spawner, room, err)
+}
+
 /// What no output is written to.
 const NOTHING: [u8; 2048] = [0; 2048];
 
@@ -282,20 +290,12 @@ fn words_are_answered_with_their_status(rt: HostRuntime) -> Result<(), Fail> {
         let words = words(&rt, said)?;
         let mut room = [0u8; 2048];
         let mut err = MemorySink::new(rt.alloc());
-        let answered = answer(
-            &rt,
-            rt.alloc(),
-            &words,
-            &mut Disk::new(&rt),
-            &mut ThreadSpawner::new(rt.alloc(), no_thread),
-            &mut room[..size.min(2048)],
-            &mut err,
-        );
-        assert_eq!(rt; answered, status, "{said}");
+        let answered = answered(&rt, &words, &mut room[..size.min(2048)], &mut err);
+        expect_eq!(answered, status, said);
         assert!(rt; room.starts_with(output.as_bytes()), "{said}");
         let behind = room.get(output.len()..).unwrap_or(b"");
         assert!(rt; NOTHING.ends_with(behind), "{said}");
-        assert_eq!(rt; err.as_slice(), line.as_bytes(), "{said}");
+        expect_eq!(err.as_slice(), line.as_bytes(), said);
     }
     fs::remove_file(&rt, policy.as_str())?;
     fs::remove_file(&rt, recording.as_str())?;
@@ -321,6 +321,6 @@ fn texts_say_what_each_status_means(rt: HostRuntime) -> Result<(), Fail> {
 fn the_exit_status_is_that_of_the_words(rt: HostRuntime) -> Result<(), Fail> {
     // The run of the tests has no words of a form.
     let mut spawner = ThreadSpawner::new(rt.alloc(), no_thread);
-    assert_eq!(rt; start(&rt, &rt, &mut spawner), ExitCode::from(1));
+    expect_eq!(start(&rt, &rt, &mut spawner), ExitCode::from(1));
     Ok(())
 }
