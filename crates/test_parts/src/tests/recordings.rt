@@ -82,7 +82,7 @@ impl Part<Words> for Reader {
     }
 }
 
-/// What reads traces.
+/// What reads traces, and accepts those that it reads.
 #[derive(Drop)]
 struct TraceReader {
     alloc: Global,
@@ -91,12 +91,11 @@ struct TraceReader {
 impl Part<Words> for TraceReader {
     fn answer(&mut self, (slices, words): &Words) -> Result<String, AllocError> {
         let file = file_of(self.alloc, words)?;
-        match trace_items(self.alloc, &file, *slices) {
-            Ok(found) => told(self.alloc, &found),
-            Err(fault) => told(
-                self.alloc,
-                &accept_trace(&file, *slices).err().unwrap_or(fault),
-            ),
+        let found = trace_items(self.alloc, &file, *slices);
+        match (found, accept_trace(&file, *slices)) {
+            (Ok(found), Ok(())) => told(self.alloc, &found),
+            (Err(fault), Err(other)) if fault == other => told(self.alloc, &fault),
+            (_, accepted) => told(self.alloc, &accepted),
         }
     }
 }
@@ -306,6 +305,17 @@ fn records_are_appended(rt: HostRuntime) -> Result<(), Fail> {
         alloc,
         "begin up slice slice-talks 010f1f0000000001010203040506070809",
     )?;
+    let (came, wanted) = (told(alloc, &out)?, told(alloc, &wanted)?);
+    expect(0, &came, &wanted)
+}
+
+#[test]
+fn a_trace_begins_with_its_own_bytes(rt: HostRuntime) -> Result<(), Fail> {
+    let alloc = rt.alloc();
+    let mut out = Vec::new(alloc);
+    begin_trace(&mut out)?;
+    add_item(&mut out, SWITCH_UP, 0, 0, 5, &[])?;
+    let wanted = file_of(alloc, "trace up")?;
     let (came, wanted) = (told(alloc, &out)?, told(alloc, &wanted)?);
     expect(0, &came, &wanted)
 }

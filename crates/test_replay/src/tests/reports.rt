@@ -1,6 +1,7 @@
 //! The report of a recording in memory, and of the same where the switch's stream comes byte by byte, through a framer of
 //! the test's own.
 
+use event_player::played;
 use fv_base::MemorySink;
 use fv_cli::report;
 use of10_ctl::{Framer, Next};
@@ -89,6 +90,19 @@ fn expect_report(rt: &impl Abort, alloc: Global, recording: &[u8]) -> Result<(),
 fn the_report_of_a_recording_in_memory_is_written(rt: HostRuntime) -> Result<(), Fail> {
     let recording = bytes(rt.alloc(), RECORDING)?;
     expect_report(&rt, rt.alloc(), &recording)
+}
+
+#[test]
+fn a_played_recording_leaves_the_desks_of_its_switches(rt: HostRuntime) -> Result<(), Fail> {
+    let alloc = rt.alloc();
+    let recording = bytes(alloc, RECORDING)?;
+    let policy = policy_text::read(alloc, POLICY.as_bytes())?;
+    let _records = items(alloc, &recording, policy.slices().len() as u8)?;
+    let played = played(alloc, &policy, &recording)?;
+    assert_eq!(rt; played.events(), 5);
+    assert!(rt; played.desk(0).is_some());
+    assert!(rt; played.desk(1).is_none());
+    Ok(())
 }
 
 /// Appends a record of the switch's bytes for each frame that the bytes of a message give, one by one.
