@@ -95,7 +95,7 @@ first_turned pairs bytes head more is =
 
 -- ---- a list of actions
 
-first_length : (pairs : Pairs) (kind : ℕ) (own : List ℕ) → 8 ≤ length own → length (turn_action pairs kind own) ≡ length own
+pub first_length : (pairs : Pairs) (kind : ℕ) (own : List ℕ) → 8 ≤ length own → length (turn_action pairs kind own) ≡ length own
 first_length pairs kind own eight = elim (cases_Bool (names_port kind)) [
   | inl names ↦ rw names (with_length 4 (written pairs (number_at own 4 2)) own (omega (arith, eight)))
   | inr other ↦ rw other refl
@@ -119,7 +119,7 @@ unfolding turn_actions
 turn_actions_length pairs zero bytes = refl
 turn_actions_length pairs (suc n) bytes = by_head pairs n bytes (turn_actions_length pairs n) (head_at bytes) refl
 
-none_there : (pairs : Pairs) (n : ℕ) → turn_actions pairs n [] ≡ []
+pub none_there : (pairs : Pairs) (n : ℕ) → turn_actions pairs n [] ≡ []
 none_there pairs n = nil_from_length (turn_actions pairs n []) (turn_actions_length pairs n [])
 
 none_read : (n : ℕ) (actions : List Action) → actions_at n [] ≡ Ok actions → [] ≡ actions
@@ -128,7 +128,7 @@ none_read zero actions e = ok_is [] actions e
 none_read (suc n) actions e = ok_is [] actions e
 
 -- what the reading of one action says of its head
-headed : (l : List ℕ) (x : Action × List ℕ) → action_at l ≡ Ok x → (head : ℕ × ℕ) × (head_at l ≡ Ok head) × (action_of head.0 l ≡ x.0) × (drop head.1 l ≡ x.1)
+pub headed : (l : List ℕ) (x : Action × List ℕ) → action_at l ≡ Ok x → (head : ℕ × ℕ) × (head_at l ≡ Ok head) × (action_of head.0 l ≡ x.0) × (drop head.1 l ≡ x.1)
 unfolding action_at
 headed l x e =
     let head = bind_ok (head_at l) (λ h. Ok (action_of h.0 l, drop h.1 l)) x e in

@@ -10,3 +10,11 @@ pub mod ReadTurned
 pub mod StayBytes
 pub mod Same
 pub mod Each
+pub mod Parts
+pub mod InPlace
+pub mod Pieces
+pub mod Named
+pub mod SentShown
+pub mod Stays
+pub mod SentLengths
+pub mod Features

@@ -1,4 +1,5 @@
 pub mod Turns
 pub mod Turned
 pub mod Readings
+pub mod Sent
 pub mod Rows

@@ -1,6 +1,6 @@
 //! Laws of the definitions. Each function's contract is the law; its body does nothing.
 
-ghost use Rattle.std.specs.Prelude.{ℕ, List, [], ◌≡◌, ◌<◌, length, take, Ok};
+ghost use Rattle.std.specs.Prelude.{ℕ, List, [], ◌∷◌, ◌++◌, ◌≡◌, ◌<◌, true, false, map, length, take, drop, Ok};
 ghost use Rattle.std.specs.List.{All};
 ghost use Rattle.of10_flow.specs.declared.flow_mod.FlowMod.{FlowMod};
 ghost use Rattle.of10_flow.specs.declared.packet_out.PacketOut.{PacketOut};
@@ -9,9 +9,16 @@ ghost use Rattle.of10_flow.specs.PacketOuts.{read_packet_out};
 ghost use Rattle.of10_message.specs.Controller.{read_controller};
 ghost use Rattle.flowspace.specs.Swaps.{Pairs};
 ghost use Rattle.port_turns.specs.Turned.{exchanged, turned_flow_mod, turned_packet_out};
-ghost use Rattle.port_turns.specs.Turns.{turn_flow_mod, turn_packet_out, written};
+ghost use Rattle.port_turns.specs.Turns.{turn_flow_mod, turn_packet_out, turn_port, written};
 ghost use Rattle.port_turns.specs.Readings.{turn_in, read_turned, turned_read};
-ghost use Rattle.port_turns.specs.Rows.{nine_for_two, two_actions, add_bytes, out_bytes};
+ghost use Rattle.port_turns.specs.Sent.{has_port_entries, in_number_order, tells_ports, turn_out, turned_numbers};
+ghost use Rattle.port_turns.specs.Rows.{nine_for_two, two_actions, add_bytes, out_bytes, in_bytes, removed_bytes, status_bytes, queues_bytes, stats_bytes, flow_bytes, cut_actions, port_entry, queue_entry, features_bytes};
+ghost use Rattle.of10_message.specs.Heads.{message_kind, version_of};
+ghost use Rattle.of10_model.specs.Normal.{number_at};
+ghost use Rattle.of10_ctl.specs.declared.kind.TheConstants.{FEATURES_REPLY, STATS_REPLY};
+ghost use Rattle.of10_ctl.specs.Frames.{is_bad};
+ghost use Rattle.of10_port.specs.Features.{has_whole_ports};
+ghost use Rattle.of10_port.specs.Ports.{port_bytes, ports_in};
 
 /// A flow-mod whose bytes are turned has as many bytes and the same head, and is read as the flow-mod that was
 /// read, turned.
@@ -48,4 +55,39 @@ pub fn turned_message_keeps_its_head()
 pub fn turned_message_is_read_turned()
     ensures turned { (pairs : Pairs) (bytes : List ℕ) → read_turned pairs bytes ≡ turned_read (exchanged pairs) (read_controller bytes) }
     ensures none { (bytes : List ℕ) → turn_in [] bytes ≡ bytes }
+{}
+
+/// A message for a slice in which no port number stands stays as it is, and so does each where the slice has no swaps.
+pub fn messages_without_ports_stay()
+    ensures other { (pairs : Pairs) (f : List ℕ) → tells_ports (message_kind f) ≡ false → turn_out pairs f ≡ f }
+    ensures statistics { (pairs : Pairs) (f : List ℕ) → message_kind f ≡ STATS_REPLY → has_port_entries (number_at f 8 2) ≡ false → turn_out pairs f ≡ f }
+    ensures none { (f : List ℕ) → turn_out [] f ≡ f }
+{}
+
+/// A message for a slice is as long with its numbers exchanged as it was.
+pub fn sent_message_keeps_its_length()
+    ensures { (pairs : Pairs) (f : List ℕ) → length (turned_numbers pairs f) ≡ length f }
+{}
+
+/// A FEATURES_REPLY for a slice that has swaps has each port under the number that is shown, and the ports in
+/// ascending order of these (OpenFlow 1.0.0, section 5.3.1; the order is this proxy's own rule).
+pub fn ports_are_shown_in_order()
+    ensures { (f : List ℕ) → version_of f ≡ 1 → is_bad f ≡ false → message_kind f ≡ FEATURES_REPLY → has_whole_ports f ≡ true → (pair : ℕ × ℕ) (others : Pairs) → turn_out (pair ∷ others) f ≡ take 32 f ++ port_bytes (in_number_order (map (turn_port (pair ∷ others) 0) (ports_in (drop 32 f)))) }
+{}
+
+/// Rows of bytes, in which 9 is shown for 2. Of a removed entry an in_port that is free stays; of a flow entry whose
+/// actions aren't read the in_port is exchanged and they stay; an entry of 87 bytes stays, with all behind it; the
+/// numbers for no port, for all and of the switch's own port stay; and a switch's ports are sorted by what is shown.
+pub fn sent_ports_alone_are_exchanged()
+    ensures packet { turned_numbers nine_for_two (in_bytes 2) ≡ in_bytes 9 }
+    ensures removed { turned_numbers nine_for_two (removed_bytes 0x3820fe 2) ≡ removed_bytes 0x3820fe 9 }
+    ensures free { turned_numbers nine_for_two (removed_bytes 0x3820ff 2) ≡ removed_bytes 0x3820ff 2 }
+    ensures status { turned_numbers nine_for_two (status_bytes 2) ≡ status_bytes 9 }
+    ensures queues { turned_numbers nine_for_two (queues_bytes 2) ≡ queues_bytes 9 }
+    ensures flow { turned_numbers nine_for_two (stats_bytes 124 1 (flow_bytes 112 2 (two_actions 2 9))) ≡ stats_bytes 124 1 (flow_bytes 112 9 (two_actions 9 2)) }
+    ensures cut { turned_numbers nine_for_two (stats_bytes 112 1 (flow_bytes 100 2 cut_actions)) ≡ stats_bytes 112 1 (flow_bytes 100 9 cut_actions) }
+    ensures short { turned_numbers nine_for_two (stats_bytes 188 1 (flow_bytes 88 2 (flow_bytes 87 2 []))) ≡ stats_bytes 188 1 (flow_bytes 88 9 (flow_bytes 87 2 [])) }
+    ensures ports { turned_numbers nine_for_two (stats_bytes 220 4 (port_entry 2 ++ port_entry 0xffff)) ≡ stats_bytes 220 4 (port_entry 9 ++ port_entry 0xffff) }
+    ensures queue { turned_numbers nine_for_two (stats_bytes 76 5 (queue_entry 2 ++ queue_entry 0xfffc)) ≡ stats_bytes 76 5 (queue_entry 9 ++ queue_entry 0xfffc) }
+    ensures features { turn_out nine_for_two (features_bytes 2 5 0xfffe) ≡ features_bytes 5 9 0xfffe }
 {}

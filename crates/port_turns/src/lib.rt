@@ -3,6 +3,9 @@
 #![tactic(auto)]
 
 pub mod laws;
+mod places;
+mod sending;
 mod values;
 
+pub use sending::turn_numbers;
 pub use values::{turned_flow_mod, turned_packet_out, turned_queues, turned_request};
