@@ -379,8 +379,8 @@ read_parts highest (slice ∷ rest) rules swaps le held =
     let each = printable slices rules (recursion_from_All IsPlainRule rules proper.plain_rules) held.rules_held (recursion_from_All _ rules proper.writers_known) (recursion_from_All _ rules proper.readers_known) in
     let each' = printable_swaps slices swaps plain_swaps held.swaps_held (recursion_from_All _ swaps held.swaps.slices_known) in
     let is_parsed =
-        parsed (needed_version swaps) (slice_entries slice) (map slice_entries rest) (map (rule_entries slices) rules) (map (swap_entries slices) swaps) (version_limits swaps).1
-        (slices_apart slices) (rules_apart slices rules) (swaps_apart slices swaps) (slices_written slices plain) (rules_written slices rules held.rules_held) (swaps_written slices swaps plain_swaps) in
+    parsed (needed_version swaps) (slice_entries slice) (map slice_entries rest) (map (rule_entries slices) rules) (map (swap_entries slices) swaps) (version_limits swaps).1
+    (slices_apart slices) (rules_apart slices rules) (swaps_apart slices swaps) (slices_written slices plain) (rules_written slices rules held.rules_held) (swaps_written slices swaps plain_swaps) in
     ap (parts_of highest) is_parsed ∙ parts_back highest slice rest rules swaps le plain known each each'
 
 document_is : (text : List ℕ) → IsUtf8 text → document_of text ≡ parse_document text

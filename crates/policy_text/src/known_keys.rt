@@ -43,10 +43,7 @@ fn is_known(keys: Keys, key: &str) -> bool
 {
     match keys {
         Keys::Top(version) => {
-            key == "version"
-                || key == "slice"
-                || key == "rule"
-                || (version >= 2 && key == "port")
+            key == "version" || key == "slice" || key == "rule" || (version >= 2 && key == "port")
         }
         Keys::Slice => {
             key == "name"

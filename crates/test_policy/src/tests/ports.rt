@@ -39,18 +39,36 @@ const TEXTS: &[(&str, &str)] = &[
     ("port = 1\nzone = 1", "UnknownKey(zone)"),
     ("port = 1\nports = 1", "UnknownKey(ports)"),
     // An unknown key, and each field that is missing or bad, in order
-    ("port = [{ zone = 1, in_port = 2 }]", "UnknownKey(port.0.in_port)"),
+    (
+        "port = [{ zone = 1, in_port = 2 }]",
+        "UnknownKey(port.0.in_port)",
+    ),
     ("port = [{}]", "Missing(port.0.slice)"),
     ("port = [{ slice = 1 }]", "BadValue(port.0.slice)"),
-    ("port = [{ slice = 'alice', switch = 1 }]", "BadValue(port.0.switch)"),
+    (
+        "port = [{ slice = 'alice', switch = 1 }]",
+        "BadValue(port.0.switch)",
+    ),
     (
         "port = [{ slice = 'alice', switch = '00000000000000A1' }]",
         "BadValue(port.0.switch)",
     ),
-    ("port = [{ slice = 'alice', physical = -1 }]", "Missing(port.0.shown)"),
-    ("port = [{ slice = 'alice', shown = 65281 }]", "BadValue(port.0.shown)"),
-    ("port = [{ slice = 'alice', shown = '9' }]", "BadValue(port.0.shown)"),
-    ("port = [{ slice = 'alice', shown = 9 }]", "Missing(port.0.physical)"),
+    (
+        "port = [{ slice = 'alice', physical = -1 }]",
+        "Missing(port.0.shown)",
+    ),
+    (
+        "port = [{ slice = 'alice', shown = 65281 }]",
+        "BadValue(port.0.shown)",
+    ),
+    (
+        "port = [{ slice = 'alice', shown = '9' }]",
+        "BadValue(port.0.shown)",
+    ),
+    (
+        "port = [{ slice = 'alice', shown = 9 }]",
+        "Missing(port.0.physical)",
+    ),
     (
         "port = [{ slice = 'alice', shown = 9, physical = 65534 }]",
         "BadValue(port.0.physical)",
@@ -132,7 +150,10 @@ fn version_one_has_no_port_tables(rt: HostRuntime) -> Result<(), Fail> {
 fn text_of_swaps(alloc: Global, count: u32) -> Result<String, AllocError> {
     let mut text = String::from_str(alloc, "version = 2\nport = [")?;
     for number in 0..count {
-        write!(text, "{{ slice = 'alice', shown = {number}, physical = {number} }},")?;
+        write!(
+            text,
+            "{{ slice = 'alice', shown = {number}, physical = {number} }},"
+        )?;
     }
     text.push_str("]")?;
     Ok(text)
