@@ -102,6 +102,12 @@ impl Waiting {
         due
     }
 
+    /// The one at a place, and those who sleep and are to be woken; they sleep no longer.
+    pub fn wake_with(&self, place: usize) -> u64 {
+        self.due.fetch_or(bit_at(place), Ordering::SeqCst);
+        self.wake_due()
+    }
+
     /// All who sleep; they sleep no longer.
     pub fn wake_all(&self) -> u64 {
         if self.asleep.load(Ordering::SeqCst) == 0 {

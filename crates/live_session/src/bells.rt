@@ -111,18 +111,16 @@ impl Bells {
         self.hold.lock(rt)
     }
 
-    // Wakes all who sleep.
-    pub(crate) fn ring_all<R: Wait>(&self, rt: &R) {
-        self.ring_each(rt, self.waiting.wake_all());
-        self.ring_room(rt);
-    }
-
-    // What goes on wakes those for whom messages wait, what ends everyone: it may be their end.
-    pub(crate) fn wake<R: Wait>(&self, rt: &R, goes_on: bool) {
-        if goes_on {
-            self.ring(rt);
-        } else {
-            self.ring_all(rt);
+    // A side's connection came or ended. The switch's may be the first that all wait for, or their end; a slice's is
+    // so for the slice alone, and others are woken where messages wait for them.
+    pub(crate) fn ring_for<R: Wait>(&self, rt: &R, side: Side) {
+        let bits = match side {
+            Side::Switch => self.waiting.wake_all(),
+            Side::Slice(_) => self.waiting.wake_with(bell_of_side(side)),
+        };
+        self.ring_each(rt, bits);
+        if side == Side::Switch || !self.is_lane_full() {
+            self.ring_room(rt);
         }
     }
 

@@ -16,7 +16,7 @@ use crate::bells::Bells;
 use crate::ends::ReaderEnd;
 use crate::facts::ReaderFacts;
 use crate::gate::Gate;
-use crate::side::{Side, down, message, up};
+use crate::side::{Side, down, message, side_of, up};
 use crate::turns::Turns;
 use fv_live::{Clock, Host, Source};
 use live_desk::{DeskObject, DeskOp, DeskReply, Event, Timed, Verdict};
@@ -85,7 +85,7 @@ fn ask<R: Wait, C: Clock>(
     }
 }
 
-/// One event while nobody else asks. Then everyone is woken: it may be the first that they wait for, or their end.
+/// One event while nobody else asks. Then those are woken for whom it may be the first that they wait for, or their end.
 pub(crate) fn ask_alone<R: Wait, C: Clock>(
     rt: &R,
     desk: &TurnDesk<DeskObject>,
@@ -102,12 +102,13 @@ pub(crate) fn ask_alone<R: Wait, C: Clock>(
 {
     let hold = bells.hold(rt);
     let ends = matches!(&event, Event::SwitchDown);
+    let side = side_of(&event);
     let asked = ask(rt, desk, seat, clock, event);
     if ends {
         bells.end(Side::Switch);
     }
     drop(hold);
-    bells.ring_all(rt);
+    bells.ring_for(rt, side);
     asked
 }
 
@@ -340,7 +341,8 @@ pub(crate) fn finish<R: Wait, C: Clock, G: Gate>(
 /// Reads one connection: the seat asks the desk for its up, a message for each frame of the bytes taken, in
 /// order, and its down, each at the clock's next answer. No down follows a reply that ends the connection, so
 /// that what it sent before can still be taken. It wakes the writers for which messages wait after the messages of a
-/// turn, which is one where the gate may wait, and all of them after an up, a down, an end and at its own end.
+/// turn, which is one where the gate may wait. After an up, a down, an end and at its own end it wakes the side's own
+/// writer, too, and that of the switch all of them.
 pub fn run_reader<
     R: Host + Net<Listener = TcpListener, Stream = TcpStream>,
     S: Source,
@@ -373,6 +375,6 @@ pub fn run_reader<
     let end = begin(rt, &facts, seat, source, clock);
     let end = finish(rt, &facts, seat, clock, end);
     bells.end(side);
-    bells.ring_all(rt);
+    bells.ring_for(rt, side);
     end
 }

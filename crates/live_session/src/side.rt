@@ -13,6 +13,16 @@ pub enum Side {
     Slice(u8),
 }
 
+// The side of an event.
+pub(crate) fn side_of(event: &Event) -> Side {
+    match event {
+        Event::SwitchUp | Event::SwitchMsg(_) | Event::SwitchDown => Side::Switch,
+        Event::SliceUp(slot) | Event::SliceMsg(slot, _) | Event::SliceDown(slot) => {
+            Side::Slice(*slot)
+        }
+    }
+}
+
 // The connection came.
 pub(crate) fn up(side: Side) -> Event
     ensures { result ≡ up_of side }

@@ -82,6 +82,15 @@ impl<'a> Turns<'a> {
         (had > Duration::from_micros(SHARE_OF_A_SLICE)).then_some(rest)
     }
 
+    // What goes on wakes those for whom messages wait. What ends is also the end of those who wait for its side.
+    fn wake<R: Wait>(&self, rt: &R, goes_on: bool) {
+        if goes_on {
+            self.bells.ring(rt);
+        } else {
+            self.bells.ring_for(rt, self.side);
+        }
+    }
+
     fn let_go(&mut self) {
         drop(self.hold.take());
         self.left = messages_of(self.side);
@@ -111,7 +120,7 @@ impl<'a> Turns<'a> {
         let rest = self.rest(rt);
         if self.each || self.left == 0 || !goes_on || rest.is_some() {
             self.let_go();
-            self.bells.wake(rt, goes_on);
+            self.wake(rt, goes_on);
         }
         match rest {
             Some(rest) if goes_on => thread::sleep(rt, rest),
