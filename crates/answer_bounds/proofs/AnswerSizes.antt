@@ -123,25 +123,25 @@ short-queues xid message queues read =
 
 message_size : (s : Settings) (view : List Item) (past : List Past) (moment : ℕ) (message : List ℕ) → IsShort message → HasFewPorts view → IsSmall (message_answer s view past moment message)
 message_size s view past moment message short ports =
-  let turned = message_turned s message in
-  let turned_short : IsShort turned = subst (λ (n : ℕ). n ≤ 65535) (sym (turn_in_size s.swaps message)) short in
-  message_holds (λ (ends : Bool) (a : Answer). IsSmall a) s view past moment message (record {
-  bad = small_dismissal (error_for bad_request_length message) (short-error (xid_of message) bad_request_length.0 bad_request_length.1 message);
-  old = small_dismissal (error_of (xid_of message) no_common_version.0 no_common_version.1 []) (short-error (xid_of message) no_common_version.0 no_common_version.1 []);
-  nothing = small_silence;
-  refuses = λ fault. small_refused fault message;
-  echoes = λ body read.
-      let whole : IsShort (echo_reply_to (xid_of message) body) = subst (λ (b : List ℕ). IsShort (echo_reply_to (xid_of message) b)) (sym (echo_as_read turned body read)) (short-echo (xid_of message) turned turned_short) in
-      small_told (echo_reply_to (xid_of message) body) whole;
-  tells_features = λ features. small_told (spell_features (features_with features (known_ports view)) (xid_of message)) (short-features (features_with features (known_ports view)) (xid_of message) ports.whole ports.few);
-  tells_configuration = small_told (config_told (miss_send_len view) message) (short-config (xid_of message) (miss_send_len view));
-  forwards = λ m read none. small_forwarded (ground_of s view past) m none;
-  sends_out = λ m read none. small_sent_out (ground_of s view past) m none;
-  tells_table = small_told (table_reply (length (ground_of s view past).booked) s.quota (xid_of message)) (short-table (length (ground_of s view past).booked) s.quota (xid_of message));
-  asks_statistics = λ request asked read may is. small_asking (ground_of s view past) (ForStatistics asked) (short-request asked (ground_of s view past).xid);
-  asks_barrier = λ read. small_asking (ground_of s view past) ForBarrier (short-message BARRIER_REQUEST (ground_of s view past).xid [] (omega arith));
-  asks_queues = λ queues read own. small_asking (ground_of s view past) (ForQueues queues) (short-queues (ground_of s view past).xid turned queues read);
-})
+    let turned = message_turned s message in
+    let turned_short : IsShort turned = subst (λ (n : ℕ). n ≤ 65535) (sym (turn_in_size s.swaps message)) short in
+    message_holds (λ (ends : Bool) (a : Answer). IsSmall a) s view past moment message (record {
+      bad = small_dismissal (error_for bad_request_length message) (short-error (xid_of message) bad_request_length.0 bad_request_length.1 message);
+      old = small_dismissal (error_of (xid_of message) no_common_version.0 no_common_version.1 []) (short-error (xid_of message) no_common_version.0 no_common_version.1 []);
+      nothing = small_silence;
+      refuses = λ fault. small_refused fault message;
+      echoes = λ body read.
+          let whole : IsShort (echo_reply_to (xid_of message) body) = subst (λ (b : List ℕ). IsShort (echo_reply_to (xid_of message) b)) (sym (echo_as_read turned body read)) (short-echo (xid_of message) turned turned_short) in
+          small_told (echo_reply_to (xid_of message) body) whole;
+      tells_features = λ features. small_told (spell_features (features_with features (known_ports view)) (xid_of message)) (short-features (features_with features (known_ports view)) (xid_of message) ports.whole ports.few);
+      tells_configuration = small_told (config_told (miss_send_len view) message) (short-config (xid_of message) (miss_send_len view));
+      forwards = λ m read none. small_forwarded (ground_of s view past) m none;
+      sends_out = λ m read none. small_sent_out (ground_of s view past) m none;
+      tells_table = small_told (table_reply (length (ground_of s view past).booked) s.quota (xid_of message)) (short-table (length (ground_of s view past).booked) s.quota (xid_of message));
+      asks_statistics = λ request asked read may is. small_asking (ground_of s view past) (ForStatistics asked) (short-request asked (ground_of s view past).xid);
+      asks_barrier = λ read. small_asking (ground_of s view past) ForBarrier (short-message BARRIER_REQUEST (ground_of s view past).xid [] (omega arith));
+      asks_queues = λ queues read own. small_asking (ground_of s view past) (ForQueues queues) (short-queues (ground_of s view past).xid turned queues read);
+    })
 
 -- ---- packets
 

@@ -157,22 +157,22 @@ pub stands_with : (s : Settings) (sight : Sight) (message : List ℕ) (moment : 
     → Does s sight.view message moment ends asks sends set → SliceStands s sight old → Changed s sight message moment ends asks sends set old new
     → SliceStands s (with_item (Msg message moment) sight) new
 stands_with s sight message moment ends asks sends set old new does stands changed =
-  let ending : is_dismissing message ≡ ends = sym (read_ends s message) ∙ does.ending in
-  let setting : length_set message ≡ set = sym (read_wants s message) ∙ does.setting in
-  let asking : (is_up sight.view && is_question message) ≡ asks = ap (λ (asked : Bool). is_up sight.view && asked) (sym (read_asks s message)) ∙ does.asking in
-  record {
-  up = changed.up_is ∙ rw ending refl;
-  miss_send_len = changed.length_is ∙ rw (ending, setting, stands.miss_send_len) refl;
-  moment = changed.moment_is;
-  requests = subst (λ (calls : List RequestCall). RequestsStand s.slot calls new.xids) (rw (ending, does.sending) refl) changed.requests;
-  collections = subst (λ (calls : List CollectionCall). CollectionsStand calls new.collections) (rw (ending, does.sending) refl) changed.collections;
-  bucket = subst (λ (asked : List ℕ). BucketStands asked new.bucket) (sym (questions_with s sight.view message moment asks asking)) changed.bucket;
-  book = subst (λ (calls : List BookCall). BookStands calls new.book) (rw does.sending refl) changed.book;
-  given = changed.given ∙ stands.given;
-  held = changed.held ∙ rw ending refl;
-  rate = changed.rate ∙ stands.rate;
-  burst = changed.burst ∙ stands.burst;
-}
+    let ending : is_dismissing message ≡ ends = sym (read_ends s message) ∙ does.ending in
+    let setting : length_set message ≡ set = sym (read_wants s message) ∙ does.setting in
+    let asking : (is_up sight.view && is_question message) ≡ asks = ap (λ (asked : Bool). is_up sight.view && asked) (sym (read_asks s message)) ∙ does.asking in
+    record {
+      up = changed.up_is ∙ rw ending refl;
+      miss_send_len = changed.length_is ∙ rw (ending, setting, stands.miss_send_len) refl;
+      moment = changed.moment_is;
+      requests = subst (λ (calls : List RequestCall). RequestsStand s.slot calls new.xids) (rw (ending, does.sending) refl) changed.requests;
+      collections = subst (λ (calls : List CollectionCall). CollectionsStand calls new.collections) (rw (ending, does.sending) refl) changed.collections;
+      bucket = subst (λ (asked : List ℕ). BucketStands asked new.bucket) (sym (questions_with s sight.view message moment asks asking)) changed.bucket;
+      book = subst (λ (calls : List BookCall). BookStands calls new.book) (rw does.sending refl) changed.book;
+      given = changed.given ∙ stands.given;
+      held = changed.held ∙ rw ending refl;
+      rate = changed.rate ∙ stands.rate;
+      burst = changed.burst ∙ stands.burst;
+    }
 
 -- ---- the packets that are held
 
