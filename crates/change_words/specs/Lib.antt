@@ -1,0 +1,2 @@
+pub mod BookOrder
+pub mod Changes
