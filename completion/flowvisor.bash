@@ -40,6 +40,7 @@ _flowvisor_tool_options() {
         from-pcap) echo '--help -h --switch-port --policy --slice --attach --direct --drop' ;;
         compare) echo '--help -h --switch-port --policy --slice --attach' ;;
         watch) echo '--help -h --switch-port --slice --how --log --http --public --to-end' ;;
+        clean) echo '--help -h --ovs --to --switch' ;;
         *) echo '--help -h' ;;
     esac
 }
@@ -49,7 +50,7 @@ _flowvisor_tool() {
     COMPREPLY=()
     _flowvisor_redirected && return
     if ((COMP_CWORD == 1)); then
-        mapfile -t COMPREPLY < <(compgen -W 'lint explain try show to-pcap from-pcap compare watch --help -h --version' -- "$word")
+        mapfile -t COMPREPLY < <(compgen -W 'lint explain try show to-pcap from-pcap compare watch clean --help -h --version' -- "$word")
         return
     fi
     case $before:$command:$word in
@@ -57,7 +58,7 @@ _flowvisor_tool() {
         --recording:*) _flowvisor_files "$word" .rec ;;
         --under:*) _flowvisor_files "$word" .toml ;;
         --command:*) mapfile -t COMPREPLY < <(compgen -W 'add modify modify_strict delete delete_strict' -- "$word") ;;
-        --switch:* | --switch-port:* | --slice:* | --attach:* | --direct:* | --drop:* | --ports:* | --http:*) ;;
+        --switch:* | --switch-port:* | --slice:* | --attach:* | --direct:* | --drop:* | --ports:* | --http:* | --ovs:* | --to:*) ;;
         *:-*) mapfile -t COMPREPLY < <(compgen -W "$(_flowvisor_tool_options "$command")" -- "$word") ;;
         lint:lint:* | --strict:lint:* | --resolve:lint:* | *:explain:* | *:try:*) _flowvisor_files "$word" .toml ;;
         *:lint:*) ;;

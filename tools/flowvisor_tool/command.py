@@ -5,11 +5,11 @@ import os
 import signal
 import sys
 
-from flowvisor_tool import VERSION, compare, explain, from_pcap, lint, show, to_pcap, try_message, watch
+from flowvisor_tool import VERSION, clean, compare, explain, from_pcap, lint, show, to_pcap, try_message, watch
 from .faults import Fault
 
 # Each has NAME, SUMMARY, add_arguments(parser) and run(arguments), which gives the status.
-SUBCOMMANDS = (lint, explain, try_message, show, to_pcap, from_pcap, compare, watch)
+SUBCOMMANDS = (lint, explain, try_message, show, to_pcap, from_pcap, compare, watch, clean)
 BROKEN_PIPE_STATUS = 128 + signal.SIGPIPE
 MISSPELLED_STATUS = 2
 INTERRUPTED_STATUS = 128 + signal.SIGINT
@@ -35,7 +35,7 @@ def parser():
     """The parser of the words, with a parser for each subcommand."""
     command = Parser(
         prog="flowvisor-tool",
-        description="Reads what flowvisor takes and gives: policies, recordings, reports and captures.",
+        description="Reads what flowvisor takes and gives: policies, recordings, reports, plans and captures.",
         allow_abbrev=False,
     )
     command.add_argument("--version", action="version", version=f"%(prog)s {VERSION}")

@@ -1,4 +1,4 @@
-"""Prints a report, a recording or a capture for people to read: a line for each message, with its fields by name."""
+"""Prints a report, a plan, a recording or a capture for people to read: a line for each message, with its fields by name."""
 import itertools
 
 from .captures import Problem
@@ -7,17 +7,18 @@ from .faults import Fault
 from .files import is_capture, is_recording, named, say
 from .from_pcap import slice_end, switch_end
 from .openflow.messages import message_text
+from .plans import Plan, is_plan
 from .recordings import Kind, events_of, records_of
 from .reports import What, lines_of
 from .watching.shown import capture_texts
 
 NAME = "show"
-SUMMARY = "print the messages of a report, a recording or a capture"
+SUMMARY = "print the messages of a report, a plan, a recording or a capture"
 EPILOG = """\
-A line of a report begins as the report's own: the event, the switch, and to whom the message goes. A line of a
-recording has the event, the switch, the moment in milliseconds, and from whom the message comes: the switch, or
-the slot of a slice. A line of a capture has the packet, the moment, and from whom the message comes or to whom the
-proxy sends it. The options are for captures.
+A line of a report begins as the report's own: the event, the switch, and to whom the message goes; and so does one of
+a plan, which `flowvisor change` prints. A line of a recording has the event, the switch, the moment in milliseconds,
+and from whom the message comes: the switch, or the slot of a slice. A line of a capture has the packet, the moment, and
+from whom the message comes or to whom the proxy sends it. The options are for captures.
 """
 
 
@@ -27,13 +28,15 @@ def add_arguments(parser):
     add("--switch-port", default=(None, 6653), type=switch_end, metavar="PORT", help="where switches connect to (6653)")
     add("--policy", metavar="POLICY", help="has the slices' names, and their controllers")
     add("--slice", action="append", default=[], type=slice_end, metavar="SLICE=ADDRESS:PORT", help="a slice's controller")
-    parser.add_argument("file", metavar="FILE", help="what `flowvisor replay` printed, or reads, or a capture")
+    parser.add_argument("file", metavar="FILE", help="what `flowvisor replay` or `change` printed, or reads, or a capture")
 
 
 def run(arguments):
     with open(arguments.file, "rb") as file, named(arguments.file):
         if is_capture(file):
             say(told_capture(file, arguments))
+        elif is_plan(file):
+            say(plan_texts(Plan(file, arguments.file)))
         elif is_recording(file, arguments.file):
             say(recording_texts(records_of(file, arguments.file)))
         else:
@@ -71,6 +74,13 @@ def report_text(line):
         return f"{start} close {line.slice_name}"
     to = "lane" if line.slice_name is None else f"to {line.slice_name}"
     return f"{start} {to} {message_text(line.message)}"
+
+
+def plan_texts(plan):
+    """A line for each message of a plan, and its last one."""
+    for switch, message in plan.messages():
+        yield f"{switch} clean {message_text(message)}"
+    yield plan.end
 
 
 def recording_texts(records):

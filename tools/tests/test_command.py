@@ -17,7 +17,7 @@ LINES, COLUMNS = 24, 80
 
 class Help(unittest.TestCase):
     def test_of_each_subcommand_is_one_screen(self):
-        for words in ([], ["lint"], ["explain"], ["try"], ["show"], ["to-pcap"], ["from-pcap"], ["compare"], ["watch"]):
+        for words in ([], ["lint"], ["explain"], ["try"], ["show"], ["to-pcap"], ["from-pcap"], ["compare"], ["watch"], ["clean"]):
             for option in ("--help", "-h"):
                 outcome = run_script(*words, option, env={**os.environ, "COLUMNS": str(COLUMNS)})
                 self.assertEqual((outcome.returncode, outcome.stderr), (0, ""))
@@ -62,6 +62,7 @@ class Files(unittest.TestCase):
         yield "compare", *PORT, "--policy", path, self.capture(), REPORT
         yield "watch", "--to-end", path, REPORT
         yield "watch", "--to-end", POLICY, path
+        yield "clean", "--ovs", "br0", path
 
     def capture(self):
         """A capture of the shipped session."""
