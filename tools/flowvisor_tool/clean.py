@@ -1,4 +1,4 @@
-"""Sends a switch the plan of a change of policy, as `flowvisor change` prints it, or prints the commands that do."""
+"""Sends a switch the plan of a change of policy, or prints the commands that do."""
 import argparse
 import contextlib
 import shlex
@@ -15,10 +15,11 @@ from .recordings import SWITCHES
 NAME = "clean"
 SUMMARY = "send a switch the plan of a change of policy"
 EPILOG = """\
-A plan takes away the entries that slices may no longer have under a new policy, and adds none. --ovs prints a command
-of Open vSwitch for each message, for a shell. --to sends them by OpenFlow 1.0 to a port where the switch listens for
-controllers (with Open vSwitch ptcp:PORT), and waits until it has answered a barrier behind them. Without a file the plan is read
-from standard input.
+A plan takes away the entries that slices may no longer have under a new policy, and adds none. It has a line
+`SWITCH clean BYTES-IN-HEX` for each flow-mod, and a last line `end EVENTS MESSAGES`. --ovs prints a command of Open
+vSwitch for each message, for a shell. --to sends them by OpenFlow 1.0 to a port where the switch listens for
+controllers (with Open vSwitch ptcp:PORT), and waits until it has answered a barrier behind them. Without a file the
+plan is read from standard input.
 """
 STANDARD_INPUT = "standard input"
 
@@ -29,7 +30,7 @@ def add_arguments(parser):
     way.add_argument("--ovs", metavar="BRIDGE", help="print the commands for a bridge of Open vSwitch")
     way.add_argument("--to", metavar="HOST:PORT", type=listening_end, help="send the plan to a switch that listens there")
     parser.add_argument("--switch", metavar="NUMBER", type=switch_number, help="the switch's number in the plan, where it is for several")
-    parser.add_argument("plan", metavar="PLAN", nargs="?", help="what flowvisor change printed")
+    parser.add_argument("plan", metavar="PLAN", nargs="?", help="the plan")
 
 
 def listening_end(text):

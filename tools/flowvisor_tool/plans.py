@@ -1,4 +1,4 @@
-"""Plans: what `flowvisor change` prints."""
+"""Plans: lines `SWITCH clean BYTES-IN-HEX` and a last one `end EVENTS MESSAGES`."""
 import re
 
 from .faults import Fault

@@ -15,10 +15,10 @@ from .watching.shown import capture_texts
 NAME = "show"
 SUMMARY = "print the messages of a report, a plan, a recording or a capture"
 EPILOG = """\
-A line of a report begins as the report's own: the event, the switch, and to whom the message goes; and so does one of
-a plan, which `flowvisor change` prints. A line of a recording has the event, the switch, the moment in milliseconds,
-and from whom the message comes: the switch, or the slot of a slice. A line of a capture has the packet, the moment, and
-from whom the message comes or to whom the proxy sends it. The options are for captures.
+A line of a report begins as the report's own: the event, the switch, and to whom the message goes; so does one of a
+plan (`SWITCH clean BYTES-IN-HEX`, last `end EVENTS MESSAGES`). One of a recording has the event, the switch, the moment
+in milliseconds, and from whom the message comes: the switch, or a slice's slot. One of a capture has the packet, the
+moment, and from whom the message comes or to whom the proxy sends it. The options are for captures.
 """
 
 
@@ -28,7 +28,7 @@ def add_arguments(parser):
     add("--switch-port", default=(None, 6653), type=switch_end, metavar="PORT", help="where switches connect to (6653)")
     add("--policy", metavar="POLICY", help="has the slices' names, and their controllers")
     add("--slice", action="append", default=[], type=slice_end, metavar="SLICE=ADDRESS:PORT", help="a slice's controller")
-    parser.add_argument("file", metavar="FILE", help="what `flowvisor replay` or `change` printed, or reads, or a capture")
+    parser.add_argument("file", metavar="FILE", help="a report, a plan, a recording or a capture")
 
 
 def run(arguments):
