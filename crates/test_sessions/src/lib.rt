@@ -10,4 +10,6 @@ mod readers;
 #[cfg(test)]
 mod slices;
 #[cfg(test)]
+mod waking;
+#[cfg(test)]
 mod writers;
