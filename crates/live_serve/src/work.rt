@@ -1,16 +1,18 @@
-ghost use Rattle.std.specs.Prelude.{◌≡◌};
+ghost use Rattle.std.specs.Prelude.{◌≡◌, ◌+◌, min};
 ghost use Rattle.std.specs.Arc.{arc_value};
-ghost use Rattle.turn_desk.specs.Seats.{IsSeatOf};
+ghost use Rattle.turn_desk.specs.Seats.{IsSeatOf, SameDesk};
 
 use crate::connection::Connection;
 use fv_live::{Clock, Dialer, Host, NeverSource, Wires, Work};
-use live_session::{DeskObject, Dest, Gate, ReaderEnd, Side, run_reader, run_slice, run_writer};
+use live_session::{
+    DeskObject, Dest, Gate, ReaderEnd, Side, SliceEnd, run_reader, run_slice, run_writer, tell_end,
+};
 use std::alloc::Global;
 use std::net::{Net, TcpListener, TcpStream};
 use std::sync::{Arc, Wait};
 use std::thread;
 use std::time::Duration;
-use turn_desk::TurnSeat;
+use turn_desk::{TurnDesk, TurnSeat};
 
 /// The wait before another attempt to end a switch for which there was no memory, in milliseconds.
 const WAIT_FOR_MEMORY: u64 = 10;
@@ -85,7 +87,8 @@ fn read_from_switch<
     let Some(mut source) = shared.take_source(rt) else {
         return;
     };
-    let end = run_reader(
+    let mut kept = keep_call(&shared.desk, seat);
+    let mut end = run_reader(
         rt,
         shared.alloc,
         &shared.desk,
@@ -97,8 +100,29 @@ fn read_from_switch<
         &shared.bells,
     );
     if end == ReaderEnd::Memory {
-        end_switch(rt, shared, seat, clock, gate);
+        end = end_switch(rt, shared, seat, clock, gate);
     }
+    if end == ReaderEnd::Spent {
+        let _told = tell_end(
+            rt,
+            &shared.desk,
+            &mut kept,
+            Side::Switch,
+            clock,
+            &shared.bells,
+        );
+    }
+}
+
+// One call of a reader's, where it has one: by it the desk is asked for the down once the others are spent.
+fn keep_call(desk: &TurnDesk<DeskObject>, seat: &mut TurnSeat<DeskObject>) -> TurnSeat<DeskObject>
+    requires desk { IsSeatOf desk.now seat.old }
+    ensures desk { SameDesk seat.new seat.old × SameDesk result seat.old }
+    ensures kept { result.left ≡ min seat.old.left 1 }
+    ensures rest { seat.new.left + result.left ≡ seat.old.left }
+{
+    let calls = seat.left().min(1);
+    desk.split(seat, calls)
 }
 
 // Where there was no memory for the first event, the desk knows of no switch that could end, and others would wait
@@ -108,7 +132,13 @@ fn end_switch<
     N: Wires,
     C: Clock,
     G: Gate,
->(rt: &R, shared: &Connection<N>, seat: &mut TurnSeat<DeskObject>, clock: &mut C, gate: &G)
+>(
+    rt: &R,
+    shared: &Connection<N>,
+    seat: &mut TurnSeat<DeskObject>,
+    clock: &mut C,
+    gate: &G,
+) -> ReaderEnd
     requires desk { IsSeatOf shared.now.desk seat.old }
 {
     for _ in rt.forever() {
@@ -124,10 +154,11 @@ fn end_switch<
             &shared.bells,
         );
         if end != ReaderEnd::Memory {
-            return;
+            return end;
         }
         thread::sleep(rt, Duration::from_millis(WAIT_FOR_MEMORY));
     }
+    unreachable!()
 }
 
 fn write_switch<R: Wait, N: Wires>(rt: &R, shared: &Connection<N>, seat: &mut TurnSeat<DeskObject>)
@@ -170,7 +201,8 @@ fn read_links<
     let Some(half) = shared.links.get(usize::from(slot)) else {
         return;
     };
-    let _end = run_slice(
+    let mut kept = keep_call(&shared.desk, seat);
+    let end = run_slice(
         rt,
         shared.alloc,
         &shared.desk,
@@ -183,6 +215,16 @@ fn read_links<
         half,
         &shared.bells,
     );
+    if end == SliceEnd::Spent {
+        let _told = tell_end(
+            rt,
+            &shared.desk,
+            &mut kept,
+            Side::Slice(slot),
+            &mut clock,
+            &shared.bells,
+        );
+    }
 }
 
 // Each link's half is dropped before the next link is asked for.

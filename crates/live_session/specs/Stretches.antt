@@ -173,8 +173,12 @@ has_down Dismissed = false
 has_down DeskEnded = false
 has_down Spent = false
 
+-- the one call was the down
+abbrev pub GoesDown : Side → Spot → Spot → Type 0
+GoesDown side a b = (reply : DeskReply) × WentOne a (down_of side) reply b
+
 abbrev pub FinishesBy : Bool → Side → ReaderEnd → Spot → ReaderEnd → Spot → Type 0
-FinishesBy true side end a result b = ((result ≡ end) × ((reply : DeskReply) × WentOne a (down_of side) reply b)) ⊎ ((result ≡ Spent) × (b ≡ a) × (a.left ≡ 0))
+FinishesBy true side end a result b = ((result ≡ end) × GoesDown side a b) ⊎ ((result ≡ Spent) × (b ≡ a) × (a.left ≡ 0))
 FinishesBy false side end a result b = (result ≡ end) × (b ≡ a)
 
 -- the down of a connection that ended so, if it has one; it is missing where no calls are left

@@ -18,7 +18,7 @@ pub use ends::{ReaderEnd, SliceEnd, WriterEnd};
 pub use gate::{Gate, OpenGate};
 pub use half::Half;
 pub use live_desk::{Desk, DeskObject, DeskOp, DeskReply, Dest, Event, Taken, Timed, Verdict};
-pub use reader::run_reader;
+pub use reader::{run_reader, tell_end};
 pub use side::Side;
 pub use slice::run_slice;
 pub use writer::run_writer;

@@ -10,7 +10,7 @@ ghost use Rattle.turn_desk.specs.Histories.{Called};
 ghost use Rattle.turn_desk.specs.Seats.{IsSeatOf, SameDesk, view};
 ghost use Rattle.live_desk.specs.Operates.{Operates};
 ghost use Rattle.live_desk.specs.declared.object.DeskOp.TheVariants.{Step};
-ghost use Rattle.live_session.specs.Stretches.{spot, messages, Went, WentOne, Tells, StretchOfMessages, HandedTo, DeskCall, StretchBeforeDown, has_down, Finishes, Stretch};
+ghost use Rattle.live_session.specs.Stretches.{spot, messages, Went, WentOne, Tells, StretchOfMessages, HandedTo, DeskCall, StretchBeforeDown, has_down, GoesDown, Finishes, Stretch};
 
 use crate::bells::Bells;
 use crate::ends::ReaderEnd;
@@ -336,6 +336,28 @@ pub(crate) fn finish<R: Wait, C: Clock, G: Gate>(
         return ReaderEnd::Spent;
     };
     end
+}
+
+/// Asks the desk for the down of a connection whose reader has no calls left, by a seat that has one. `Spent` exactly
+/// where it has none.
+pub fn tell_end<R: Wait, C: Clock>(
+    rt: &R,
+    desk: &TurnDesk<DeskObject>,
+    seat: &mut TurnSeat<DeskObject>,
+    side: Side,
+    clock: &mut C,
+    bells: &Bells,
+) -> Result<(), Spent>
+    requires desk { IsSeatOf desk.now seat.old }
+    ensures desk { SameDesk seat.new seat.old }
+    ensures down { OnOk result (GoesDown side (spot seat.old (C.coming clock.old)) (spot seat.new (C.coming clock.new))) }
+    ensures spent { OnErr result (seat.old.left ≡ 0) }
+    ensures same { OnErr result (spot seat.new (C.coming clock.new) ≡ spot seat.old (C.coming clock.old)) }
+{
+    match ask_alone(rt, desk, seat, clock, bells, down(side)) {
+        Ok(_) => Ok(()),
+        Err(spent) => Err(spent),
+    }
 }
 
 /// Reads one connection: the seat asks the desk for its up, a message for each frame of the bytes taken, in

@@ -10,6 +10,8 @@ mod readers;
 #[cfg(test)]
 mod slices;
 #[cfg(test)]
+mod spent;
+#[cfg(test)]
 mod waking;
 #[cfg(test)]
 mod writers;
