@@ -5,6 +5,8 @@ ghost use Rattle.std.specs.Prelude.{◌≡◌, ◌≢◌};
 ghost use Rattle.std.specs.IoError.{error_kind};
 
 mod clock;
+#[cfg(test)]
+mod closing_tests;
 mod disk;
 mod help_and_version;
 mod run;

@@ -315,6 +315,10 @@ impl Wires for Sockets {
         }
     }
 
+    fn close(&mut self) {
+        self.listener = None;
+    }
+
     fn dialer(&self) -> SocketDialer {
         SocketDialer {
             faults: 0,

@@ -27,11 +27,11 @@ const TEXT: &[u8] = b"one\ntwo\n";
 
 const OTHER: &[u8] = b"1st\n2nd\n";
 
-const POLICY: &[u8] =
+pub const POLICY: &[u8] =
     b"version = 1\n[[slice]]\nname = \"alice\"\ncontroller = \"127.0.0.1:6633\"\n";
 
 /// A path for a file of this process in the folder of files that don't last.
-fn scratch_path(rt: &HostRuntime, name: &str) -> Result<String, Fail> {
+pub fn scratch_path(rt: &HostRuntime, name: &str) -> Result<String, Fail> {
     let id = process::id(rt.process());
     let folder = env::temp_dir(rt)?;
     Ok(format!(in rt.alloc(); "{}/flowvisor-test-{id}-{name}", folder.as_path().as_str())?)
@@ -134,7 +134,7 @@ fn streams_write_what_is_put(rt: HostRuntime) -> Result<(), Fail> {
 }
 
 /// An address of the loopback at which nothing listens.
-fn free_address(rt: &HostRuntime) -> Result<String, Fail> {
+pub fn free_address(rt: &HostRuntime) -> Result<String, Fail> {
     let address = TcpListener::bind(rt, "127.0.0.1:0")?.local_addr()?;
     Ok(format!(in rt.alloc(); "{address}")?)
 }
@@ -231,7 +231,7 @@ const USAGE: &str =
     "usage: flowvisor check POLICY / replay POLICY RECORDING / gen SEED COUNT / serve POLICY LISTEN COUNT / flatten OUTER NAME INNER\n";
 
 /// The words; one that begins with `@` is the path of the scratch file of that name.
-fn words(rt: &HostRuntime, said: &str) -> Result<Vec<String>, Fail> {
+pub fn words(rt: &HostRuntime, said: &str) -> Result<Vec<String>, Fail> {
     let mut words = Vec::new(rt.alloc());
     for word in said.split_ascii_whitespace() {
         let word = match word.strip_prefix('@') {

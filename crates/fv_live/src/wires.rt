@@ -73,6 +73,12 @@ pub trait Wires: Drop {
         ensures calm { OnOk result ((at : List ℕ) → faults self.new at ≡ faults self.old at) }
         ensures count { (at : List ℕ) → faults self.old at ≤ faults self.new at };
 
+    /// Stops listening, where it can. What was accepted goes on.
+    fn close(&mut self)
+        ensures same { accepted self.new ≡ accepted self.old }
+        ensures calm { (at : List ℕ) → faults self.new at ≡ faults self.old at }
+    {}
+
     /// A dialler with counts of its own.
     fn dialer(&self) -> Self::Dial;
 }

@@ -8,10 +8,11 @@ use Rattle.policy_text.specs.declared.fault.ReadFault.{ReadFault}
 use Rattle.policy_text.specs.Documents.{document_of, policy_of}
 use Rattle.fv_cli.specs.declared.ending.Ending.TheVariants as early
 use Rattle.fv_cli.specs.Endings.{PolicySays, PassesLimit, policy_limit}
+use Rattle.live_serve.specs.declared.accept.RunEnd.{RunEnd}
 use Rattle.live_serve.specs.declared.accept.RunEnd.TheVariants.{Done, NoMemory, WireFault, NoThread}
 use Rattle.live_serve.specs.declared.finish.Finish.{Finish}
 use Rattle.live_serve.specs.declared.finish.Finish.TheVariants.{Early, Ran}
-use Rattle.live_serve.specs.Running.{ServeOutside, outside}
+use Rattle.live_serve.specs.Running.{ServeOutside, outside, IsRunCause}
 use Rattle.live_serve.specs.Serving.{ServeReads, Places, ServeCauses, IsServeCause, IsPolicyToServe, AreCalm, ServeCompletes, finish_status}
 
 -- the spawner told the same at the end
@@ -22,6 +23,15 @@ pub cause_kept : (w : ServeReads) (a : Places) (accepted : Option ℕ) (roles ro
 cause_kept w a accepted roles roles' h s s' form finish same calm cause =
     let told = subst (λ r. ServeCauses w a (λ at. outside accepted r (h at) s) form finish) (sym same) cause in
     subst (λ n. ServeCauses w a (λ at. outside accepted roles' (h at) n) form finish) (sym calm) told
+
+-- it stopped listening, by which no count changed
+pub run_kept : (addresses : List (List ℕ)) (count : ℕ) (a : ServeOutside) (accepted accepted' : Option ℕ) (roles : Option (List Role)) (w w' s : ℕ) (end : RunEnd) →
+    accepted' ≡ accepted → w' ≡ w →
+    IsRunCause addresses count a (outside accepted roles w s) end →
+    IsRunCause addresses count a (outside accepted' roles w' s) end
+run_kept addresses count a accepted accepted' roles w w' s end same calm cause =
+    let counted = subst (λ n. IsRunCause addresses count a (outside n roles w s) end) (sym same) cause in
+    subst (λ n. IsRunCause addresses count a (outside accepted' roles n s) end) (sym calm) counted
 
 -- ---- completeness
 

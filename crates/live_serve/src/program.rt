@@ -18,7 +18,7 @@ use live_session::Gate;
 use std::alloc::Global;
 use std::net::{Net, TcpListener, TcpStream};
 
-/// Listens at the place, and accepts so many connections there.
+/// Listens at the place, and accepts so many connections there. Then it stops listening.
 fn run<
     R: Host + Net<Listener = TcpListener, Stream = TcpStream>,
     N: Wires,
@@ -42,7 +42,9 @@ fn run<
     let Ok(()) = wires.listen(rt, listen) else {
         return RunEnd::WireFault;
     };
-    accept_all(rt, policy, count, wires, facts, spawner)
+    let end = accept_all(rt, policy, count, wires, facts, spawner);
+    wires.close();
+    end
 }
 
 /// What the words of `serve` ask for: the path of the policy, the place where to listen, and how many connections are
@@ -146,7 +148,9 @@ fn decide<
 /// Does `serve POLICY LISTEN COUNT`: listens at LISTEN, accepts COUNT connections of switches, and runs a session
 /// under the policy for each, at most 16 at once: a connection that is accepted while 16 run is closed, and so is one
 /// that is accepted while works of 48 connections run. Each session's works run on threads that `spawner` starts,
-/// with clones of the clock and of the gate. It waits until all of them have ended, and then answers the exit status. Each status but 0 has a line, which goes to `err`.
+/// with clones of the clock and of the gate. Each status but 0 has a line, which goes to `err`. Once no more connections
+/// are accepted it stops listening and puts that line; then it waits until all sessions have ended, and answers the exit
+/// status.
 ///
 /// | status | means |
 /// |---|---|
@@ -182,7 +186,7 @@ pub fn serve<
 {
     let facts = WorkFacts { alloc, clock, gate };
     let finish = decide(rt, words, files, wires, &facts, spawner);
-    spawner.finish(rt);
     finish.say(err);
+    spawner.finish(rt);
     finish.status()
 }
