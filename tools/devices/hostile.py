@@ -1,4 +1,4 @@
-"""A controller that sends hostile bytes: it is answered as `replay` says of the same bytes, and no other notices."""
+"""Controllers that send hostile bytes: each is answered as `replay` says of the same bytes, and no other notices."""
 
 import asyncio
 import dataclasses
@@ -29,6 +29,8 @@ DATAPATH = 0xA1
 TURNS_PER_SECOND = 500
 QUIET = 0.02
 PATIENCE = 10
+# Among so many controllers the attacks are divided, since each waits longer for its next link than for the one before.
+HOSTILE = 24
 SEEDS = 20
 
 # How many bytes a message of each type has at least.
@@ -132,9 +134,9 @@ def attacks():
 class Oracle:
     """What `replay` says that the controller is sent, from its first connection on."""
 
-    def __init__(self, program, policy):
-        self.program, self.policy = program, policy
-        self.file = pathlib.Path(policy).with_name("hostile.rec")
+    def __init__(self, program, policy, slot):
+        self.program, self.policy, self.slot = program, policy, slot
+        self.file = pathlib.Path(policy).with_name(f"hostile-{slot}.rec")
         self.records = [record(SWITCH_UP, 0), record(SWITCH_BYTES, 0, features_reply(0xFF000001, DATAPATH, PORTS))]
         self.told = 0
 
@@ -145,11 +147,11 @@ class Oracle:
 
     async def answer(self, data):
         """What the controller is sent on its next connection, where it sends these bytes, and whether it is closed."""
-        self.records += [record(SLICE_UP, 0), record(SLICE_BYTES, 0, data)]
+        self.records += [record(SLICE_UP, self.slot), record(SLICE_BYTES, self.slot, data)]
         lines = await asyncio.to_thread(self.replay)
         mine = [line for line in lines[self.told : -1] if line[2] != "lane"]
         self.told = len(lines) - 1
-        self.records.append(record(SLICE_DOWN, 0))
+        self.records.append(record(SLICE_DOWN, self.slot))
         sent = b"".join(bytes.fromhex(line[4]) for line in mine if line[2] == "to")
         return sent, any(line[2] == "close" for line in mine)
 
@@ -191,19 +193,42 @@ async def tried(raw, oracle, attack):
     return faults, is_closed
 
 
+@dataclasses.dataclass
+class Siege:
+    """What became of a controller's attacks."""
+
+    faults: list[str] = dataclasses.field(default_factory=list)
+    count: int = 0
+    closed: int = 0
+    answered: int = 0
+
+
+async def besiege(controller, oracle, attacks):
+    """Tries attacks one after the other, each on the controller's next link; there is another behind the last one."""
+    siege = Siege()
+    for attack in attacks:
+        raw = await controller.next_link()
+        found, was_closed = await tried(raw, oracle, attack)
+        siege.faults += found
+        siege.count += 1
+        siege.closed += was_closed
+        siege.answered += len(raw.taken)
+    await controller.next_link()
+    return siege
+
+
 async def run(program):
-    hostile, *others = Controller(0, Raw), Controller(1), Controller(2)
-    faults, count, closed, answered = [], 0, 0, 0
-    async with site(program, [hostile, *others]) as proxy:
+    hostile = [Controller(slot, Raw) for slot in range(HOSTILE)]
+    others = [Controller(HOSTILE), Controller(HOSTILE + 1)]
+    every = list(attacks())
+    async with site(program, [*hostile, *others]) as proxy:
         switch = await connect_switch(proxy, DATAPATH)
-        oracle = Oracle(program, proxy.policy)
         async with Traffic(await exchanges_of(switch, others), TURNS_PER_SECOND) as traffic:
-            for attack in attacks():
-                raw = await hostile.next_link()
-                found, was_closed = await tried(raw, oracle, attack)
-                faults += found
-                count, closed, answered = count + 1, closed + was_closed, answered + len(raw.taken)
-            await hostile.next_link()
+            sieges = await asyncio.gather(
+                *(besiege(each, Oracle(program, proxy.policy, each.slot), every[each.slot :: HOSTILE]) for each in hostile)
+            )
+    count, closed, answered = (sum(getattr(siege, name) for siege in sieges) for name in ("count", "closed", "answered"))
+    faults = [fault for siege in sieges for fault in siege.faults]
     seen = (
         f"{count} kinds of hostile bytes, each answered as replay says of them ({answered:,} bytes), {closed} closed, "
         f"and dialled again after each; {traffic.told()}"

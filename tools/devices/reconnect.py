@@ -1,4 +1,4 @@
-"""A controller that connects and leaves, again and again."""
+"""Controllers that connect and leave, again and again."""
 
 import asyncio
 
@@ -9,10 +9,14 @@ from devices.peers import Controller, End
 from devices.site import connect_switch, exchanges_of, site
 from sunworsted import message
 
-TIMES, FIRST = 1_000, 100
+# Each controller is dialled for each switch by itself, later from time to time.
+SWITCHES, FICKLE = 8, 28
+TIMES, FIRST = 1_000, 2 * SWITCHES * FICKLE
 TURNS_PER_SECOND = 500
 PATIENCE = 120
-# What memory may grow by from the hundredth time to the last, in KB.
+# How long after they left nobody dials.
+QUIET = 0.3
+# What memory may grow by from the first times to the last, in KB.
 GROWTH = 512
 
 
@@ -25,9 +29,18 @@ class Fickle(End):
         transport.close()
 
 
-async def come_and_go(controller, times):
-    for _ in range(times):
-        await controller.next_link(PATIENCE)
+class Fickles:
+    """Controllers that leave, whose connections come to one queue."""
+
+    def __init__(self):
+        self.each = [Controller(slot, Fickle) for slot in range(FICKLE)]
+        for controller in self.each[1:]:
+            controller.came = self.each[0].came
+
+    async def come_and_go(self, times):
+        for _ in range(times):
+            await self.each[0].next_link(PATIENCE)
+        await asyncio.sleep(QUIET)
 
 
 def held(proxy):
@@ -36,14 +49,16 @@ def held(proxy):
 
 async def run(program):
     loop = asyncio.get_running_loop()
-    fickle, others = Controller(0, Fickle), [Controller(1), Controller(2)]
-    async with site(program, [fickle, *others]) as proxy:
-        switch = await connect_switch(proxy)
-        async with Traffic(await exchanges_of(switch, others), TURNS_PER_SECOND) as traffic:
-            began = loop.time()
-            await come_and_go(fickle, FIRST)
+    fickles, others = Fickles(), [Controller(FICKLE), Controller(FICKLE + 1)]
+    async with site(program, [*fickles.each, *others]) as proxy:
+        began = loop.time()
+        exchanges = []
+        for datapath in range(1, SWITCHES + 1):
+            exchanges += await exchanges_of(await connect_switch(proxy, datapath), others)
+        async with Traffic(exchanges, TURNS_PER_SECOND) as traffic:
+            await fickles.come_and_go(FIRST)
             memory, threads, files = held(proxy)
-            await come_and_go(fickle, TIMES - FIRST)
+            await fickles.come_and_go(TIMES - FIRST)
             seconds = loop.time() - began
             last_memory, last_threads, last_files = held(proxy)
     faults = [*traffic.found]

@@ -7,8 +7,11 @@ ghost use Rattle.std.specs.IoError.{error_kind};
 mod clock;
 #[cfg(test)]
 mod closing_tests;
+#[cfg(test)]
+mod dialling_tests;
 mod disk;
 mod help_and_version;
+mod pace;
 mod run;
 mod sockets;
 mod stream;

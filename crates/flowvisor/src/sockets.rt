@@ -4,6 +4,7 @@ ghost use Rattle.std.specs.Prelude.{◌≡◌, ◌≤◌, length, List, ℕ, Non
 ghost use Rattle.fv_base.specs.Told.{Rose};
 ghost use Rattle.fv_live.specs.Wires.{place_bytes};
 
+use crate::pace::{Pace, tries_of};
 use fv_base::{Failed, Sink, one_more};
 use fv_live::{Dialer, Host, Source, Wires};
 use std::alloc::Global;
@@ -13,15 +14,8 @@ use std::rt::Clock;
 use std::thread;
 use std::time::Duration;
 
-/// The longest wait before a dial, in seconds.
-const LONGEST_WAIT: u32 = 10;
-
 /// How long a controller may take to answer a dial, in seconds.
 const LONGEST_DIAL: u64 = 5;
-
-/// The wait before a dial behind a link that has ended, in milliseconds. So a controller that takes links and ends them
-/// at once doesn't keep a processor busy.
-const WAIT_BEHIND_A_LINK: u64 = 100;
 
 /// The wait before another accept where there were no descriptors, or no memory of the system, in seconds.
 const WAIT_FOR_ROOM: u64 = 1;
@@ -148,16 +142,7 @@ impl Sink for SocketSink {
 #[derive(Drop)]
 pub struct SocketDialer {
     faults: u64,
-    /// Whether it gave a link before.
-    has_linked: bool,
-}
-
-/// How long it waits before an attempt, where so many failed in a row.
-fn wait_before(attempt: u32, has_linked: bool) -> Duration {
-    match attempt {
-        0 if has_linked => Duration::from_millis(WAIT_BEHIND_A_LINK),
-        _ => Duration::from_secs(u64::from(attempt.min(LONGEST_WAIT))),
-    }
+    pace: Pace,
 }
 
 fn connect<R: Net<Listener = TcpListener, Stream = TcpStream>>(
@@ -187,17 +172,15 @@ impl Dialer for SocketDialer {
         to: &str,
         attempt: u32,
     ) -> Result<(SocketSource, SocketSink), Failed> {
-        thread::sleep(rt, wait_before(attempt, self.has_linked));
-        match connect(rt, to) {
-            Ok(halves) => {
-                self.has_linked = true;
-                Ok(halves)
-            }
-            Err(_) => {
-                self.faults = one_more(self.faults);
-                Err(Failed)
+        for _ in 0..tries_of(attempt) {
+            self.pace.wait(rt, attempt);
+            if let Ok(halves) = connect(rt, to) {
+                self.pace.link_came(rt);
+                return Ok(halves);
             }
         }
+        self.faults = one_more(self.faults);
+        Err(Failed)
     }
 }
 
@@ -322,7 +305,7 @@ impl Wires for Sockets {
     fn dialer(&self) -> SocketDialer {
         SocketDialer {
             faults: 0,
-            has_linked: false,
+            pace: Pace::new(),
         }
     }
 }
