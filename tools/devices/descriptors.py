@@ -9,8 +9,8 @@ from devices.peers import Controller, Switch
 from devices.site import connect_switch, exchanges_of, site
 
 TURNS_PER_SECOND = 500
-# A connection has two descriptors, one for each half, and the accept that waits holds one.
-OF_ONE, OF_ACCEPT = 2, 1
+# A connection has a descriptor, and so has the accept that waits.
+OF_ONE, OF_ACCEPT = 1, 1
 # A dial that failed is tried again after 1, 2 and 3 seconds, an accept after one.
 WITHOUT, PATIENCE = 1.5, 10
 
@@ -50,10 +50,12 @@ async def without_accepts(proxy, controllers, faults):
     """A switch that finds no descriptor until there are some; how long it took then until it was served."""
     loop = asyncio.get_running_loop()
     leave_free(proxy, 0)
+    # This one takes that of the accept that waits, and its links find none.
+    await connect_switch(proxy, 4)
     serving = asyncio.create_task(until_served(proxy, 3))
     await asyncio.sleep(WITHOUT)
     expect(faults, not serving.done(), "a switch was served without a descriptor")
-    leave_free(proxy, 1 + len(controllers))
+    leave_free(proxy, 1 + 2 * len(controllers))
     began = loop.time()
     try:
         await asyncio.wait_for(serving, PATIENCE)

@@ -14,6 +14,8 @@ mod help_and_version;
 mod pace;
 mod run;
 mod sockets;
+#[cfg(test)]
+mod sockets_tests;
 mod stream;
 #[cfg(test)]
 mod tests;

@@ -7,10 +7,11 @@ ghost use Rattle.fv_live.specs.Wires.{place_bytes};
 use crate::pace::{Pace, tries_of};
 use fv_base::{Failed, Sink, one_more};
 use fv_live::{Dialer, Host, Source, Wires};
-use std::alloc::Global;
+use std::alloc::{AllocError, Global};
 use std::io::{self, ErrorKind, Read, Write};
 use std::net::{Net, Shutdown, TcpListener, TcpStream, ToSocketAddrs};
 use std::rt::Clock;
+use std::sync::Arc;
 use std::thread;
 use std::time::Duration;
 
@@ -47,17 +48,56 @@ const HOST_IS_DOWN: i32 = 112;
 /// How long a peer may take nothing of what it is sent, in seconds, before that is a fault.
 const LONGEST_STAND: u64 = 30;
 
-/// The half of a connection that gives what the peer sends.
-#[derive(Drop)]
+/// How long a switch may send nothing, in seconds, before it has told what it is. Longer is a fault.
+const LONGEST_SILENCE: u64 = 30;
+
+/// How many bytes a greeting and the features of a switch have at least.
+const FIRST_WORDS: usize = 40;
+
+/// The half of a connection that gives what the peer sends. Where it is dropped after the end or a fault the connection
+/// ends in both directions, so that nothing waits at the other half for a peer that has gone.
 pub struct SocketSource {
-    stream: TcpStream,
+    stream: Arc<TcpStream, Global>,
     faults: u64,
+    is_over: bool,
+    /// How many bytes are to come yet before the peer may be silent for long.
+    awaited: usize,
+}
+
+impl Drop for SocketSource {
+    fn drop(self) {
+        let SocketSource {
+            stream,
+            faults: _,
+            is_over,
+            awaited: _,
+        } = self;
+        if is_over {
+            let _ = stream.shutdown(Shutdown::Both);
+        }
+    }
+}
+
+impl SocketSource {
+    // So many bytes came.
+    fn came(&mut self, count: usize)
+        ensures { self.new.faults ≡ self.old.faults }
+    {
+        self.is_over = count == 0;
+        if self.awaited == 0 {
+            return;
+        }
+        self.awaited = self.awaited.saturating_sub(count);
+        if self.awaited == 0 {
+            let _ = self.stream.set_read_timeout(None);
+        }
+    }
 }
 
 /// The half of a connection that takes what the peer is sent. Where it is dropped the connection ends in both
 /// directions, so that what waits at the other half goes on.
 pub struct SocketSink {
-    stream: TcpStream,
+    stream: Arc<TcpStream, Global>,
     faults: u64,
 }
 
@@ -69,15 +109,40 @@ impl Drop for SocketSink {
 }
 
 /// Both halves of a connection. What is put is sent at once. A peer that takes nothing for long is a fault, so that
-/// one which never reads doesn't keep its session.
-fn halves(stream: TcpStream) -> io::Result<(SocketSource, SocketSink)> {
+/// one which never reads doesn't keep its session, and so is one that is silent for this time before it has told what
+/// it is.
+pub fn halves(
+    alloc: Global,
+    stream: TcpStream,
+    silence: Option<Duration>,
+) -> io::Result<(SocketSource, SocketSink)> {
     let _ = stream.set_nodelay(true);
     stream.set_write_timeout(Some(Duration::from_secs(LONGEST_STAND)))?;
+    stream.set_read_timeout(silence)?;
+    let (stream, theirs) = shared(alloc, stream).map_err(|_| io::Error::from(
+        ErrorKind::OutOfMemory,
+    ))?;
     let source = SocketSource {
-        stream: stream.try_clone()?,
+        stream,
+        faults: 0,
+        is_over: false,
+        awaited: if silence.is_some() { FIRST_WORDS } else { 0 },
+    };
+    let sink = SocketSink {
+        stream: theirs,
         faults: 0,
     };
-    Ok((source, SocketSink { stream, faults: 0 }))
+    Ok((source, sink))
+}
+
+// The one descriptor, for both halves.
+fn shared(
+    alloc: Global,
+    stream: TcpStream,
+) -> Result<(Arc<TcpStream, Global>, Arc<TcpStream, Global>), AllocError> {
+    let stream = Arc::new(alloc, stream)?;
+    let theirs = Arc::try_clone(&stream)?;
+    Ok((stream, theirs))
 }
 
 // Reads once, and again where a signal cut that short.
@@ -113,8 +178,12 @@ impl Source for SocketSource {
 
     fn take(&mut self, into: &mut [u8]) -> Result<usize, Failed> {
         match read(&self.stream, into) {
-            Ok(count) => Ok(count),
+            Ok(count) => {
+                self.came(count);
+                Ok(count)
+            }
             Err(_) => {
+                self.is_over = true;
                 self.faults = one_more(self.faults);
                 Err(Failed)
             }
@@ -141,17 +210,19 @@ impl Sink for SocketSink {
 /// What dials over TCP.
 #[derive(Drop)]
 pub struct SocketDialer {
+    alloc: Global,
     faults: u64,
     pace: Pace,
 }
 
 fn connect<R: Net<Listener = TcpListener, Stream = TcpStream>>(
     rt: &R,
+    alloc: Global,
     to: &str,
 ) -> io::Result<(SocketSource, SocketSink)> {
     for at in to.to_socket_addrs(rt)? {
         if let Ok(stream) = TcpStream::connect_timeout(rt, &at, Duration::from_secs(LONGEST_DIAL)) {
-            return halves(stream);
+            return halves(alloc, stream, None);
         }
     }
     Err(io::Error::from(ErrorKind::NotConnected))
@@ -174,7 +245,7 @@ impl Dialer for SocketDialer {
     ) -> Result<(SocketSource, SocketSink), Failed> {
         for _ in 0..tries_of(attempt) {
             self.pace.wait(rt, attempt);
-            if let Ok(halves) = connect(rt, to) {
+            if let Ok(halves) = connect(rt, self.alloc, to) {
                 self.pace.link_came(rt);
                 return Ok(halves);
             }
@@ -230,15 +301,28 @@ fn is_of_one(error: &io::Error) -> bool {
 // Whether an accept failed since there is no more of what a connection takes: memory of the system, or descriptors.
 // That passes when another connection ends. What forbids connections may pass, too.
 fn is_of_want(error: &io::Error) -> bool {
-    matches!(
-        error.raw_os_error(),
-        Some(FORBIDDEN | OUT_OF_MEMORY | FILE_TABLE_FULL | TOO_MANY_OPEN_FILES | NO_BUFFER_SPACE)
-    )
+    error.kind() == ErrorKind::OutOfMemory
+        || matches!(
+            error.raw_os_error(),
+            Some(
+                FORBIDDEN | OUT_OF_MEMORY | FILE_TABLE_FULL | TOO_MANY_OPEN_FILES | NO_BUFFER_SPACE
+            )
+        )
 }
 
-fn accept<R: Clock>(rt: &R, listener: &TcpListener) -> io::Result<(SocketSource, SocketSink)> {
+// The halves of the next connection of a switch.
+fn accept_once(alloc: Global, listener: &TcpListener) -> io::Result<(SocketSource, SocketSink)> {
+    let (stream, _) = listener.accept()?;
+    halves(alloc, stream, Some(Duration::from_secs(LONGEST_SILENCE)))
+}
+
+fn accept<R: Clock>(
+    rt: &R,
+    alloc: Global,
+    listener: &TcpListener,
+) -> io::Result<(SocketSource, SocketSink)> {
     for _ in 0..u64::MAX {
-        match listener.accept().and_then(|(stream, _)| halves(stream)) {
+        match accept_once(alloc, listener) {
             Ok(halves) => return Ok(halves),
             Err(error) if is_of_one(&error) => {}
             Err(error) if is_of_want(&error) => {
@@ -289,7 +373,7 @@ impl Wires for Sockets {
         let Some(listener) = &self.listener else {
             unreachable!()
         };
-        match accept(rt, listener) {
+        match accept(rt, self.alloc, listener) {
             Ok(halves) => Ok(halves),
             Err(_) => {
                 self.faults = one_more(self.faults);
@@ -304,6 +388,7 @@ impl Wires for Sockets {
 
     fn dialer(&self) -> SocketDialer {
         SocketDialer {
+            alloc: self.alloc,
             faults: 0,
             pace: Pace::new(),
         }
