@@ -6,8 +6,6 @@ ghost use Rattle.std.specs.IoError.{error_kind};
 
 mod clock;
 #[cfg(test)]
-mod closing_tests;
-#[cfg(test)]
 mod dialling_tests;
 mod disk;
 mod help_and_version;

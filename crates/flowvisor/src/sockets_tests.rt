@@ -43,11 +43,13 @@ fn half_that_is_dropped_before_the_end_leaves_the_other(rt: HostRuntime) -> Resu
 }
 
 /// How long a switch may be silent in tests.
-const SILENCE: Duration = Duration::from_millis(50);
+fn silence() -> Duration {
+    Duration::from_millis(50)
+}
 
 #[test]
 fn switch_that_is_silent_is_a_fault(rt: HostRuntime) -> Result<(), Fail> {
-    let (mut peer, mut source, _sink) = connected(&rt, Some(SILENCE))?;
+    let (mut peer, mut source, _sink) = connected(&rt, Some(silence()))?;
     let mut piece = [0; 64];
     peer.write_all(&[1; 39])?;
     assert_eq!(rt; source.take(&mut piece), Ok(39));
@@ -57,7 +59,7 @@ fn switch_that_is_silent_is_a_fault(rt: HostRuntime) -> Result<(), Fail> {
 
 #[test]
 fn switch_that_has_told_what_it_is_may_be_silent(rt: HostRuntime) -> Result<(), Fail> {
-    let (mut peer, mut source, _sink) = connected(&rt, Some(SILENCE))?;
+    let (mut peer, mut source, _sink) = connected(&rt, Some(silence()))?;
     let mut piece = [0; 64];
     peer.write_all(&[1; 8])?;
     assert_eq!(rt; source.take(&mut piece), Ok(8));
@@ -67,7 +69,7 @@ fn switch_that_has_told_what_it_is_may_be_silent(rt: HostRuntime) -> Result<(), 
         &rt,
         || source.take(&mut piece),
         || {
-            thread::sleep(&rt, SILENCE.saturating_mul(4));
+            thread::sleep(&rt, silence().saturating_mul(4));
             peer.write_all(b"abc")
         },
     );
