@@ -48,7 +48,7 @@ class Scanning(Peer):
 
 
 class HeavyLink(Scanning):
-    """The end of its connection; by their length errors are told from what else comes."""
+    """The end of its connection; by their length errors differ from what else comes."""
 
     def __init__(self, controller):
         super().__init__({b"\x01\x13\0\x08": self.hear_done, b"\0\x4c": self.hear_refusal})
@@ -135,7 +135,7 @@ class Heavy:
         return line.decode().strip()
 
     async def order(self, *words):
-        """Has an order carried out; what is told of it."""
+        """Has an order carried out, and gives what is reported of it."""
         self.process.stdin.write((" ".join(map(str, words)) + "\n").encode())
         return await self.told()
 

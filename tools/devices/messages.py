@@ -11,7 +11,7 @@ NO_BUFFER = 0xFFFFFFFF
 NO_PORT = 0xFFFF
 FIRST_PORT = 1_000
 
-# Of a match: any value of each field, and the fields by which the packets of one TCP port are told.
+# Of a match: any value of each field, and the fields by which the packets of one TCP port are known.
 ANY, TCP_TO_PORT = 0x003FFFFF, 0x0038204F
 
 # What the cookies of numbered flow-mods begin with.

@@ -37,7 +37,7 @@ class Peer(asyncio.Protocol):
         self.transport.write(data)
 
     def reset(self):
-        """Ends the connection by a reset, which the other end's next read is told as an error."""
+        """Ends the connection by a reset, which the other end's next read reports as an error."""
         at_once = struct.pack("ii", 1, 0)
         self.transport.get_extra_info("socket").setsockopt(socket.SOL_SOCKET, socket.SO_LINGER, at_once)
         self.transport.abort()

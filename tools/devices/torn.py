@@ -38,7 +38,7 @@ def held_packet(slot):
 
 
 def first_packet(slot):
-    """The same as the slice is told of it, where it is its first one."""
+    """The same as the slice is sent it, where it is its first one."""
     return packet_in(0, 1, tcp_packet(port_of(slot)), 0)
 
 

@@ -30,7 +30,7 @@ def duplicate_names(slices):
 
 
 def too_many(tables, most, noun):
-    """A limit, told at the first table that passes it."""
+    """A limit, reported at the first table that passes it."""
     if len(tables) > most:
         yield Finding(tables[most].position, f"there are {len(tables)} {noun}, but at most {most} may be")
 
@@ -57,7 +57,7 @@ def overlaps(rules, names):
 
 
 def ports_twice(swaps):
-    """Numbers that an earlier table of the slice names on a common switch, each told with the first such table."""
+    """Numbers that an earlier table of the slice names on a common switch, each with the first such table."""
     by_slice = collections.defaultdict(list)
     for swap in swaps:
         for earlier in by_slice[swap.slice_name]:

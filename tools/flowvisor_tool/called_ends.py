@@ -6,12 +6,12 @@ from .ends import spelled
 from .files import named
 from .segments import ACK, SYN, datagram_of, segment_of
 
-# So many are told; the rest is counted.
+# So many are named; the rest is counted.
 MOST_TOLD = 5
 
 
 def play(happenings, recorder, path, ends):
-    """Plays what happened in a capture. Where no switch came up, the first that is told is that nobody connects to their port."""
+    """Plays what happened in a capture. Where no switch came up, the first line is that nobody connects to their port."""
     try:
         for happening in happenings:
             recorder.play(happening)

@@ -204,7 +204,7 @@ class Moments:
         self.last = 0
 
     def of(self, packet):
-        """The moment of the next packet, rounded down."""
+        """The timestamp of the next packet, rounded down."""
         if packet.time is not None:
             if self.first is None:
                 self.first = packet.time

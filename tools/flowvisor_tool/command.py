@@ -1,4 +1,4 @@
-"""The command line of flowvisor-tool: its subcommands, and how what is wrong with an input is told."""
+"""The command line of flowvisor-tool: its subcommands, and how what is wrong with an input is reported."""
 import argparse
 import contextlib
 import os

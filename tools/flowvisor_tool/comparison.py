@@ -47,7 +47,7 @@ def byte_text(byte):
 
 @dataclass(frozen=True)
 class Verdict:
-    """What is told of a connection: its packet, if it is captured, whose it is, and how it compares."""
+    """What is printed of a connection: its packet, if it is captured, whose it is, and how it compares."""
 
     packet: int | None
     whose: str

@@ -24,7 +24,7 @@ NO_SWITCH = "the capture has no connection to the controller's port that both si
 
 
 class DirectSession:
-    """A switch's connection under its number, and what its controller sent before the switch told its features."""
+    """A switch's connection under its number, and what its controller sent before the switch sent its features."""
 
     def __init__(self, number):
         self.number = number

@@ -12,8 +12,8 @@ EPILOG = """\
 PACKET is given by its fields, as ovs-ofctl writes them (in_port=1,tcp,nw_dst=10.0.0.1,tp_dst=80), or as the bytes of
 an Ethernet frame in hex, perhaps with its port before it (in_port=1,HEX). What isn't said is 0, and a packet without
 dl_vlan has no tag. Or it is a flow, as a line of ovs-ofctl dump-flows: there, what isn't said is any. All packets must
-go by one rule. Without --switch all switches that the policy names are told of, and any other. With --under the slice
-NAME of OUTER is divided by POLICY, and the rules are those of the flat policy, as flowvisor flatten prints it.
+go by one rule. Without --switch the answer is for all switches that the policy names, and any other. With --under the
+slice NAME of OUTER is divided by POLICY, and the rules are those of the flat policy, as flowvisor flatten prints it.
 """
 
 DATAPATH = re.compile(r"[0-9A-Fa-f]{16}")
@@ -41,7 +41,7 @@ def add_arguments(parser):
 
 def run(arguments):
     policy = accepted_flat_policy(*arguments.under, arguments.policy) if arguments.under else accepted_policy(arguments.policy)
-    # Where one of several switches can't be told of, nothing is.
+    # Where nothing can be said of one of several switches, nothing is printed.
     for line in list(told(policy, arguments.packet, arguments.switch)):
         print(line)
     return 0

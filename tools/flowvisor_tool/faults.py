@@ -1,8 +1,8 @@
-"""What is wrong with an input, as it is told to who typed the command."""
+"""What is wrong with an input, as it is reported to who typed the command."""
 
 
 class Fault(Exception):
-    """An input that can't be taken: its text is told on one line of standard error, and the status is 1.
+    """An input that can't be taken: its text is reported on one line of standard error, and the status is 1.
 
     `source` names the file or the word that is wrong; a text without one stands for itself.
     """

@@ -9,7 +9,7 @@ from .openflow.messages import FLOW_MOD, split
 from .openflow.protocol import HEADER, FlowModCommand, FlowModFlag, Port
 from .openflow.text import hexadecimal, port_of
 
-# What stands in a flow beside its match: what it is told with, what was counted, and flags.
+# What stands in a flow beside its match: what it is printed with, what was counted, and flags.
 SETTINGS = ("priority", "cookie", "idle_timeout", "hard_timeout", "out_port")
 COUNTED = ("table", "duration", "n_packets", "n_bytes", "idle_age", "hard_age", "importance")
 FLAGS = ("send_flow_rem", "check_overlap", "reset_counts", "no_packet_counts", "no_byte_counts")

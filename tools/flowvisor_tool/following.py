@@ -188,7 +188,7 @@ class Follower:
         stream.put(segment)
 
     def hear_proxy(self, connection, segment):
-        """Takes in a segment of the proxy. Of its bytes only the datapath id is wanted that a controller is told."""
+        """Takes in a segment of the proxy. Of its bytes only the datapath id is read that a controller is sent."""
         connection.acknowledge(segment)
         stream = connection.streams[segment.source]
         if connection.role != SWITCH and stream.next is not None and not connection.features.is_over():

@@ -19,7 +19,7 @@ SUMMARY = "make a recording of a capture"
 USAGE = "%(prog)s --switch-port PORT [OPTION]... CAPTURE RECORDING"
 EPILOG = """\
 What switches and controllers send is recorded; what a proxy sends isn't, since replay makes it anew. The connections
-must be in the capture whole: what can't be read is told with its packet, and nothing is written. With --direct what
+must be in the capture whole: what can't be read is reported with its packet, and nothing is written. With --direct what
 the switch answers to its controller is left out, since the proxy asks under transaction ids of its own.
 docs/REFERENCE.md of flowvisor says all of this at length.
 """

@@ -80,7 +80,7 @@ def packet_in_both(one, other):
 
 @dataclass(frozen=True, order=True)
 class Finding:
-    """Something to be told of a policy, and where in its file."""
+    """Something to be said of a policy, and where in its file."""
 
     position: Position
     text: str
@@ -197,7 +197,7 @@ def refused_pairs(rules) -> Iterator[tuple[Rule, Rule]]:
 def partly_read_pairs(rules) -> Iterator[tuple[Rule, Rule, str]]:
     """Pairs of rules of one slice, given in their order, that have packets in common, and a reader of one of them alone.
 
-    Each reader of a rule is told of with one other rule.
+    Each reader of a rule is reported with one other rule.
     """
     written = collections.defaultdict(list)
     for rule in rules:

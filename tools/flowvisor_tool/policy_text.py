@@ -179,7 +179,7 @@ class PolicyReader:
         return Swap(index, self.document.position(table.start), values.get("slice"), switch, shown, physical)
 
     def has_needs(self, index, table, values):
-        """Whether each field has what it needs beside it; one that needs a field that has a fault isn't told of."""
+        """Whether each field has what it needs beside it; one that needs a field that has a fault isn't reported."""
         has_all = True
         for name, needs in NEEDS.items():
             if name not in table.content:
@@ -252,7 +252,7 @@ def read_policy_file(path):
 
 
 def accepted_policy(path):
-    """The policy in a file. One that has faults isn't told of further: lint does that."""
+    """The policy in a file. Of one that has faults no more is said: lint does that."""
     reading = read_policy_file(path)
     if reading.faults:
         raise Fault("it isn't accepted: flowvisor-tool lint tells why", path)

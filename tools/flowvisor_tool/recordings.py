@@ -122,7 +122,7 @@ class SwitchSession:
 
     def __init__(self):
         self.frames = Frames()
-        self.is_open = False  # whether it has told its features
+        self.is_open = False  # whether it has sent its features
         self.has_ended = False
         self.slices = {}  # the frames of those that the proxy serves, by slot
 

@@ -16,9 +16,9 @@ NAME = "show"
 SUMMARY = "print the messages of a report, a plan, a recording or a capture"
 EPILOG = """\
 A line of a report begins as the report's own: the event, the switch, and to whom the message goes; so does one of a
-plan (`SWITCH clean BYTES-IN-HEX`, last `end EVENTS MESSAGES`). One of a recording has the event, the switch, the moment
-in milliseconds, and from whom the message comes: the switch, or a slice's slot. One of a capture has the packet, the
-moment, and from whom the message comes or to whom the proxy sends it. The options are for captures.
+plan (`SWITCH clean BYTES-IN-HEX`, last `end EVENTS MESSAGES`). One of a recording has the event, the switch, the
+timestamp in milliseconds, and from whom the message comes: the switch, or a slice's slot. One of a capture has the
+packet, the timestamp, and from whom the message comes or to whom the proxy sends it. The options are for captures.
 """
 
 

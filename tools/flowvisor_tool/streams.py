@@ -28,7 +28,7 @@ class Stream:
     def __init__(self):
         self.first = None  # the first byte's sequence number; None while it isn't known
         self.next = None  # the place of the next byte
-        self.end = None  # the place behind the last byte, once it is told
+        self.end = None  # the place behind the last byte, once it is known
         self.held = []  # a heap of bytes that wait: the place, the packet's number, how many were sent, and those that are there
         self.claim = None  # the furthest place before which all is said to be sent, by which packet, and its problem
         self.sent = None  # the furthest place that the side's own packets show, where they are looked at

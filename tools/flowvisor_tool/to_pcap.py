@@ -13,7 +13,7 @@ NAME = "to-pcap"
 SUMMARY = "make a capture of a report or a recording, for Wireshark and tshark"
 EPILOG = """\
 Of a report the capture has what the proxy sends, and the time of a message is the number of its event in
-milliseconds; with --recording it has what the switches and controllers send too, and the moments of the recording.
+milliseconds; with --recording it has what the switches and controllers send too, and the timestamps of the recording.
 Of a recording alone it has what these send. A line is printed for each connection. Addresses are made up.
 """
 
@@ -67,7 +67,7 @@ class Unfit(Exception):
 
 
 class TooLate(Exception):
-    """A moment that a capture can't have."""
+    """A timestamp that a capture can't have."""
 
 
 class Network:
@@ -128,7 +128,7 @@ def peer_of(slot):
 
 
 def checked(moment):
-    """A moment that a capture can tell."""
+    """A timestamp that a capture can have."""
     if moment > Capture.LATEST:
         raise TooLate(moment)
     return moment
@@ -153,7 +153,7 @@ def hear(network, event, name=None):
 
 
 def play_report(network, lines):
-    """Plays a report alone. Slices get slots in the order in which it names them, and an event's number is its moment."""
+    """Plays a report alone. Slices get slots in the order in which it names them, and an event's number is its timestamp."""
     slots = {}
     for line in lines:
         if line.what is not What.END:
@@ -207,7 +207,7 @@ def play_both(network, events, lines):
 
 
 def slot_of(line, slots):
-    """The slot of a line, as the slices' connections have told it before."""
+    """The slot of a line, as the slices' connections have given it before."""
     if line.slice_name is None:
         return None
     if line.slice_name not in slots:

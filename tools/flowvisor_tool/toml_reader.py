@@ -1,7 +1,7 @@
 """TOML 1.1 with the place of each key and value, read on past what is wrong.
 
 The standard library's `tomllib` reads TOML 1.0, gives no places, and stops at the first fault. A policy has texts,
-whole numbers, arrays and tables; other values (floats, booleans, dates) are told apart, and not looked into.
+whole numbers, arrays and tables; other values (floats, booleans, dates) are known as such, and not looked into.
 """
 import bisect
 import enum

@@ -81,7 +81,7 @@ def run(arguments):
 
 
 def slots_of(policy, name):
-    """The slots of the slices to be told of."""
+    """The slots of the slices of which something is to be said."""
     if name is None:
         return range(len(policy.slices))
     slots = [one.slot for one in policy.slices if one.name == name]

@@ -7,7 +7,7 @@ from .processes import wait_for
 SCHEMA = pathlib.Path("/usr/share/openvswitch/vswitch.ovsschema")
 # Milliseconds between two tries of a bridge to connect.
 LONGEST_BACKOFF = 1000
-# Seconds until what was told to the switch is so.
+# Seconds until what the switch was sent is so.
 STARTED, CONNECTED = 10, 20
 
 

@@ -25,14 +25,14 @@ class Draft:
 
 @dataclass(frozen=True, slots=True)
 class Answer:
-    """What is sent, and what later items can look up of it; requests and buffered packets are told by their numbers."""
+    """What is sent, and what later items can look up of it; requests and buffered packets are known by their numbers."""
 
     to_slice: tuple[bytes, ...] = ()
     to_switch: tuple[Draft, ...] = ()
     is_counted: bool = False  # for the rate
     is_config: bool = False  # a SET_CONFIG that is taken
     books: tuple[Pair, ...] = ()
-    asks: bool = False  # to be told when these go
+    asks: bool = False  # to be sent word when these go
     releases: frozenset[Pair] = frozenset()
     fails: frozenset[int] = frozenset()
     completes: frozenset[int] = frozenset()

@@ -54,7 +54,7 @@ def packet_in(view, packet):
 
 
 def removed_answer(view, removed):
-    """The pair is released; a slice that is up is told, where it was booked and asks for that (section 5.4.2)."""
+    """The pair is released; a slice that is up is sent it, where it was booked and asks for that (section 5.4.2)."""
     pair = removed.pair()
     bookings = view.bookings(pair)
     is_told = view.is_up() and bookings and bookings[-1].asks

@@ -77,7 +77,7 @@ def refuse_division(outer, holder, inner):
 
 
 def flattened(outer, holder, inner):
-    """The flat policy; what keeps it from being one is told as of any policy."""
+    """The flat policy; what keeps it from being one is reported as of any policy."""
     refuse_division(outer, holder, inner)
     rules = tuple(part.rule for part in parts(outer, holder, inner))
     policy = Policy(flat_slices(outer, holder, inner), rules)

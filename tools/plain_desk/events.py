@@ -26,7 +26,7 @@ class SliceUp:
 
 @dataclass(frozen=True, slots=True)
 class SliceMessage:
-    """A slice's message, and the moment at which it came, in milliseconds."""
+    """A slice's message, and its timestamp, in milliseconds."""
 
     slot: int
     frame: bytes

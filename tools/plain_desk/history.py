@@ -103,7 +103,7 @@ class History:
         return bool(self.says_up[slot]) and self.says_up[slot][-1] and not self.has_ended()
 
     def known_ports(self):
-        """The ports that the switch has told of, by number."""
+        """The ports that the switch has reported, by number."""
         return self.known[-1]
 
     def last_with_buffer(self, number):

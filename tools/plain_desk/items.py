@@ -27,7 +27,7 @@ class Share(enum.Enum):
 
 @dataclass(frozen=True, slots=True)
 class Opened:
-    """What the switch told of itself, with the ports of the slice, by ascending number."""
+    """What the switch said of itself, with the ports of the slice, by ascending number."""
 
     features: Features
     ports: tuple[Port, ...]
@@ -45,7 +45,7 @@ class Down:
 
 @dataclass(frozen=True, slots=True)
 class Message:
-    """A message of the slice's own, and when it came: no other item has a moment.
+    """A message of the slice's own, and when it came: no other item has a timestamp.
 
     Its port numbers are physical; `sent` has the slice's own.
     """
@@ -127,7 +127,7 @@ class Entry:
 
 @dataclass(frozen=True, slots=True)
 class Last:
-    """The switch has told all entries of a type of statistics."""
+    """The switch has sent all entries of a type of statistics."""
 
     low: int
     kind: int

@@ -1,4 +1,4 @@
-"""The ports that a switch has told of (OpenFlow 1.0.0, sections 5.2.1, 5.3.1 and 5.4.3)."""
+"""The ports that a switch has reported (OpenFlow 1.0.0, sections 5.2.1, 5.3.1 and 5.4.3)."""
 from flowvisor_tool.openflow.protocol import Port as PortNumber
 from flowvisor_tool.openflow.protocol import PortConfig, PortReason
 

@@ -2,7 +2,7 @@
 
 
 def conforms(settings, accepted, moment):
-    """Whether a message may count at a moment, after those that counted at the accepted moments.
+    """Whether a message may count at a timestamp, after those that counted at the accepted ones.
 
     For each of these, the messages from it on, this one too, are within the burst and what the rate gave since it.
     """

@@ -260,7 +260,7 @@ def sent_on(sent):
 
 
 def statistics_answer(settings, view, frame, request):
-    """The table is told at once; all other statistics are asked for and collected (section 5.3.5)."""
+    """The table is sent at once; all other statistics are asked for and collected (section 5.3.5)."""
     port = request.port()
     if port is not None and not settings.has_port(port):
         raise Refused(NOT_PERMITTED)

@@ -48,7 +48,7 @@ class Request:
 
 @dataclass(frozen=True, slots=True)
 class Booking:
-    """What an item says of an entry: the request that books it, and whether it asks to be told when the entry goes."""
+    """What an item says of an entry: the request that books it, and whether it asks to be sent word when the entry goes."""
 
     request: int
     asks: bool
@@ -69,8 +69,8 @@ class View:
     slot: int
     items: list[Seen] = field(default_factory=list)
     forgetting: list[int] = field(default_factory=list)  # the places of items that forget
-    moments: list[int] = field(default_factory=list)  # for each message the greatest moment up to it
-    accepted: list[int] = field(default_factory=list)  # the moments that counted for the rate
+    moments: list[int] = field(default_factory=list)  # for each message the greatest timestamp up to it
+    accepted: list[int] = field(default_factory=list)  # the timestamps that counted for the rate
     lengths: list[tuple[int, int]] = field(default_factory=list)  # the places of SET_CONFIGs that were taken, and their lengths
     known: list[dict] = field(default_factory=list)  # the slice's ports: at the opening, and after each status
     requests: list[Request] = field(default_factory=list)
@@ -142,7 +142,7 @@ class View:
         return bool(self.forgetting) and isinstance(self.items[self.forgetting[-1]].item, Up)
 
     def moment(self, message):
-        """The moment at which a message counts: the greatest of it and those before it (this proxy's own rule)."""
+        """The timestamp at which a message counts: the greatest of its own and those before it (this proxy's own rule)."""
         return max([*self.moments[-1:], message.moment])
 
     def miss_send_len(self):
@@ -151,7 +151,7 @@ class View:
         return length if place > self.forgotten() else MISS_SEND_LEN
 
     def features(self):
-        """What the switch told of itself."""
+        """What the switch said of itself."""
         return self.items[0].item.features
 
     def known_ports(self):
@@ -179,7 +179,7 @@ class View:
         ]
 
     def entries_of(self, request, kind):
-        """The entries of a type that were told for a request."""
+        """The entries of a type that were sent for a request."""
         return [data for place, data in self.entries[request.number % ROUND, kind] if place > request.place]
 
     # Buffers.

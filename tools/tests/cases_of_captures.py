@@ -57,7 +57,7 @@ def mixed_formats(packets, expected):
 
 
 def times(packets):
-    """Interfaces with clocks of their own, and moments at the limits."""
+    """Interfaces with clocks of their own, and timestamps at the limits."""
     order = "<"
     speed = option(order, 8, struct.pack("<q", 1000)) + option(order, 2, b"eth00") + option(order, 10, b"\x20")
     late = speed + option(order, 14, struct.pack("<q", -1000)) + option(order, 9, b"\x09") + option(order, 0, b"")
@@ -85,7 +85,7 @@ def times(packets):
         moments.append(block(order, 6, head + ethernet(talk.from_client(0)) + b"  "))
         too_far = "packet 2: its time is too far from the first packet's"
         expected = recording(record(SWITCH_UP, 1000 * last_second)) if is_told else too_far
-        yield Case(f"a moment of {1000 * last_second}", seconds + b"".join(moments), expected)
+        yield Case(f"a timestamp of {1000 * last_second}", seconds + b"".join(moments), expected)
 
 
 def links():
@@ -222,7 +222,7 @@ def damaged_blocks():
     yield Case("a packet longer than its block", section() + interface() + block("<", 6, long), damaged)
     yield Case("a simple packet longer than its block", section() + interface() + simple(bytes(8), full=9), damaged)
     beyond = pcapng(timed(packets[:2])) + enhanced(2, ethernet(packets[2]), place=1)
-    yield Case("an interface that isn't told", beyond, "packet 3: the capture doesn't tell what its interface 1 is")
+    yield Case("an interface that isn't described", beyond, "packet 3: the capture doesn't tell what its interface 1 is")
     before = blocks + section() + enhanced(2, ethernet(packets[2]))
     yield Case("an interface of the section before", before, "packet 7: the capture doesn't tell what its interface 0 is")
     other = section() + interface() + interface(link=105) + enhanced(0, ethernet(packets[0])) + enhanced(1, bytes(60), place=1)

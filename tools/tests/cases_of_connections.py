@@ -16,7 +16,7 @@ def part(first, last, **more):
 
 
 def bytes_at(*pieces):
-    """The records of bytes, each of a moment, from a first up to a last one."""
+    """The records of bytes, each of a timestamp, from a first up to a last one."""
     return [record(SWITCH_BYTES, moment, DATA[first:last]) for moment, first, last in pieces]
 
 
@@ -45,7 +45,7 @@ def sequences():
 
 
 def ends():
-    """Ends of one connection, told as in `sequences`."""
+    """Ends of one connection, written as in `sequences`."""
     talk = switch_talk()
     fin, server_fin = talk.from_client(100, b"", FIN | ACK), talk.from_server(8, b"", FIN | ACK, seen=50)
     reset, server_reset = talk.from_client(100, b"", RST | ACK), talk.from_server(0, b"", RST)
@@ -86,7 +86,7 @@ def ends():
 
 
 def misplaced_ends():
-    """Ends that are captured before the bytes that they count, and those of a connection before, told as in `sequences`."""
+    """Ends that are captured before the bytes that they count, and those of a connection before, written as in `sequences`."""
     talk = switch_talk()
     spoken = talk.from_server(0, HELLO)
     for name, (segment, counted) in {
@@ -511,7 +511,7 @@ def probes_behind_ends():
 
 
 def parts_of_milliseconds():
-    """Moments that aren't whole milliseconds."""
+    """Timestamps that aren't whole milliseconds."""
     talk = switch_talk()
     packets = [*talk.opening(), *(talk.from_client(12 * place, ECHO) for place in range(4))]
     for name, shift in {"the first packet at a whole one": 0, "the first packet in between": Fraction(7, 10)}.items():

@@ -202,9 +202,9 @@ def calls_over_one_end():
     given = "packet 9: --attach 9=2 says that this connection to slot 0 is of switch 2, which is not up\n"
     for name, datapath, words, expected in (
         ("nothing tells", None, [], "packet 9: this connection to slot 0 may be of switch 0 or 1; --attach 9=SWITCH says of which it is\n"),
-        ("the one that is up is told", 0xA2, [], SLICE_BYTES),
-        ("the one that has ended is told", 0xA1, [], None),
-        ("another one is told", 0xA3, [], none_up),
+        ("the id is of the one that is up", 0xA2, [], SLICE_BYTES),
+        ("the id is of the one that has ended", 0xA1, [], None),
+        ("the id is of another one", 0xA3, [], none_up),
         ("the one that is up is given", None, ["--attach", "9=1"], SLICE_BYTES),
         ("the one that has ended is given", None, ["--attach", "9=0"], None),
         ("another one is given", None, ["--attach", "9=2"], given),
@@ -262,8 +262,8 @@ def calls_behind_ends():
         text = f"packet {number}: this connection to slot 0 may be of switch 0 or 1; --attach {number}=SWITCH says of which it is\n"
         for switch_name, datapath, words, expected in (
             ("nothing tells", None, [], text),
-            ("the one that is up is told", 0xA2, [], None),
-            ("the one that has ended is told", 0xA1, [], None),
+            ("the id is of the one that is up", 0xA2, [], None),
+            ("the id is of the one that has ended", 0xA1, [], None),
             ("the one that is up is given", None, ["--attach", f"{number}=1"], None),
             ("the one that has ended is given", None, ["--attach", f"{number}=0"], None),
         ):
@@ -290,8 +290,8 @@ def calls_behind_known_ends():
         none = f"packet {number}: this connection to slot 0 is of no switch that is up"
         for switch_name, datapath, words, expected in (
             ("nothing tells", None, [], None),
-            ("the one that is up is told", 0xA2, [], None),
-            ("the one that has ended is told", 0xA1, [], none),
+            ("the id is of the one that is up", 0xA2, [], None),
+            ("the id is of the one that has ended", 0xA1, [], none),
             ("the one that has ended is given", None, ["--attach", f"{number}=0"], given),
         ):
             run = call_behind_end(end_, before, behind, datapath, 1)
@@ -437,7 +437,7 @@ def calls_over_beginnings():
     run.make(alice.from_server(0, ECHO), SLICE_BYTES, ECHO)
     yield run.case("a call, and another switch connects before the answer")
     none = "packet 8: this connection to slot 0 is of no switch that is up and has no other one to it; --attach 8=SWITCH says of which it is\n"
-    for name, datapath in {"": None, ", and it is told": 0xA2}.items():
+    for name, datapath in {"": None, ", and its id is sent": 0xA2}.items():
         run = Run()
         run.switch(one, 0, 0xA1)
         run.controller(alice_talk("10.0.0.1:50002"), 0, 0)
@@ -526,7 +526,7 @@ def features():
 
 
 def hidden_features():
-    """A datapath id that is told in the wrong order, or not to be read."""
+    """A datapath id that is sent in the wrong order, or not to be read."""
     one, two = 0x1122334455667788, 0x2122334455667788
     told = HELLO + features_of(one, 1 << 31)
     run, alice, switch = Run(), alice_talk(), switch_talk()
@@ -537,7 +537,7 @@ def hidden_features():
     run.pass_(*alice.opening())
     run.note(SLICE_UP)
     run.pass_(alice.from_client(20, told[20:]), alice.from_client(0, told[:20]))
-    yield run.case("a datapath id, out of order, and the switch is told half a message")
+    yield run.case("a datapath id, out of order, and the switch is sent half a message")
     run = Run()
     run.switch(switch_talk(), 0, one)
     run.switch(switch_talk("10.0.1.2:40000"), 1, two)

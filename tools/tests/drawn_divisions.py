@@ -6,7 +6,7 @@ from policies import GOOD, NAMES
 
 TENANTS = ["erin", "frank", "grace"]
 SWITCHES = GOOD["switch"]
-# Fields that need no others, but for the port of entry and the VLAN, by which writers are told apart.
+# Fields that need no others, but for the port of entry and the VLAN, by which writers differ.
 FREE = ("dl_src", "dl_dst")
 
 

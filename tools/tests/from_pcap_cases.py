@@ -76,13 +76,13 @@ def run_of(switch, alice, bob):
 
 
 def slowed(spelled, factor):
-    """The recording with its moments multiplied."""
+    """The recording with its timestamps multiplied."""
     records = records_of(spelled)
     return recording(*(record(kind, moment * factor, data, slot, switch) for kind, moment, data, slot, switch in records))
 
 
 class Run:
-    """Packets one by one, and the records that they make, each at the moment of its packet."""
+    """Packets one by one, and the records that they make, each with the timestamp of its packet."""
 
     def __init__(self):
         self.packets, self.records = [], []
@@ -107,7 +107,7 @@ class Run:
             self.make(talk.from_client(0, features), SWITCH_BYTES, features, switch=number)
 
     def controller(self, talk, slot, switch, datapath=None):
-        """A controller is connected and greeted, and told the switch's datapath id."""
+        """A controller is connected and greeted, and sent the switch's datapath id."""
         self.pass_(*talk.opening(HELLO))
         self.note(SLICE_UP, slot=slot, switch=switch)
         if datapath is not None:
@@ -119,7 +119,7 @@ class Run:
 
 
 def records_of(spelled):
-    """The records of a recording that is whole, each as its kind, moment, bytes, slot and switch."""
+    """The records of a recording that is whole, each as its kind, timestamp, bytes, slot and switch."""
     assert spelled[:8] == b"FVREC\0\0\1"
     at = 8
     while at < len(spelled):

@@ -1,6 +1,6 @@
 """`flowvisor-tool from-pcap`: captures are built here, and each recording is compared byte for byte.
 
-What can't be read must be told with its packet, end with status 1 (with 2 where words have no form), and leave the
+What can't be read must be reported with its packet, end with status 1 (with 2 where words have no form), and leave the
 folder as it was. The cases run in this process, and a few runs are of the script by itself.
 """
 import contextlib
@@ -147,7 +147,7 @@ class Cases(unittest.TestCase):
         self.try_all(cases_of_words.options)
 
 
-# What is told of the connections of the small run.
+# What is printed of the connections of the small run.
 TOLD = [
     "packet 1: switch 0: 10.0.0.9:40000 to 10.0.0.1:6633",
     "packet 6: switch 0, slot 0: 10.0.0.1:50000 to 10.0.0.5:6653",

@@ -53,7 +53,7 @@ class Speech:
 
 
 def greeted():
-    """Both have said HELLO, and the switch has told its features: packets 4 to 7, at the moments 3 to 6."""
+    """Both have said HELLO, and the switch has sent its features: packets 4 to 7, at the timestamps 3 to 6."""
     return Speech().switch(HELLO).controller(HELLO).controller(ASKED).switch(FEATURES)
 
 

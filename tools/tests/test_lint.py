@@ -20,7 +20,7 @@ COUNT, COUNT_OF_DIVISIONS = 2500, 200
 TOP = 'version = 1\n[[slice]]\nname = "alice"\ncontroller = "c:1"\n[[slice]]\nname = "bob"\ncontroller = "c:2"\n'
 
 
-# The line of `flowvisor check` for a fault, and what is told of the same here.
+# The line of `flowvisor check` for a fault, and what is said of the same here.
 SAME_FAULTS = (
     (r"not TOML", r"not TOML"),
     (r"missing (version|slice)", r"{0} is missing"),
@@ -43,7 +43,7 @@ SAME_FAULTS = (
 
 
 def same_fault(line):
-    """A pattern of what is told here of the fault that a line of `flowvisor check` tells."""
+    """A pattern of what is said here of the fault that a line of `flowvisor check` names."""
     for theirs, ours in SAME_FAULTS:
         match = re.fullmatch("policy: " + theirs, line, re.DOTALL)
         if match:
@@ -52,14 +52,14 @@ def same_fault(line):
 
 
 def told(text):
-    """What is told of a policy: faults and warnings, each with its line and column."""
+    """What is printed of a policy: faults and warnings, each with its line and column."""
     reading = read_policy(text.encode())
     findings = [*reading.faults, *lint.warnings_of(reading)]
     return [f"{found.position.line}:{found.position.column} {found.text}" for found in sorted(findings)]
 
 
 def told_of_ports(text):
-    """What is told of a policy of version 2, as it will be accepted."""
+    """What is printed of a policy of version 2, as it will be accepted."""
     return [f"{found.position.line}:{found.position.column} {found.text}" for found in read_policy(text.encode(), 2).faults]
 
 
@@ -86,7 +86,7 @@ class Agreement(unittest.TestCase):
         self.policy = pathlib.Path(place.name) / "policy.toml"
 
     def check(self, data):
-        """Whether both accept a policy; where both refuse it, the fault that the program tells is told here too."""
+        """Whether both accept a policy; where both refuse it, the fault that the program names is named here too."""
         self.policy.write_bytes(data)
         theirs = run_program("check", self.policy)
         ours = "\n".join(fault.text for fault in read_policy(data).faults)
@@ -123,7 +123,7 @@ class Agreement(unittest.TestCase):
 
 
 class PortTables(unittest.TestCase):
-    """What is told of policies of version 2."""
+    """What is printed of policies of version 2."""
 
     top = TOP.replace("version = 1", "version = 2")
 
@@ -252,7 +252,7 @@ class Overlaps(unittest.TestCase):
         )
 
     def test_the_packet_is_in_both(self):
-        """Of drawn policies each packet that is told is read again, and lies in both rules."""
+        """Of drawn policies each packet that is printed is read again, and lies in both rules."""
         maker = PolicyMaker(22)
         overlap = re.compile(r"rule (\d+) .*overlaps rule (\d+) [^:]*: (\S+)(?: on switch (\w+))? is in both")
         count = 0
@@ -330,7 +330,7 @@ class Divisions(unittest.TestCase):
         pathlib.Path(self.outer).write_text(self.OUTER)
 
     def lint(self, inner, name="alice"):
-        """The status, and what is told behind the file's name."""
+        """The status, and what is printed behind the file's name."""
         pathlib.Path(self.inner).write_text(inner)
         outcome = run_tool("lint", "--under", self.outer, name, self.inner)
         return outcome.status, [line.removeprefix(self.inner + ":") for line in outcome.out.splitlines()], outcome.err

@@ -47,13 +47,13 @@ class Captures(unittest.TestCase):
         self.policy.write_text(POLICY)
 
     def show(self, capture, *words):
-        """What is shown of a capture, without numbers and moments, and the status."""
+        """What is shown of a capture, without numbers and timestamps, and the status."""
         path = self.folder / "capture"
         path.write_bytes(capture)
         return run_tool("show", *words, path)
 
     def told(self, packets):
-        """The same of packets of one switch, each without its number and moment, and without its name."""
+        """The same of packets of one switch, each without its number and timestamp, and without its name."""
         outcome = self.show(pcap(timed(packets)), "--switch-port", "6633")
         self.assertEqual((outcome.status, outcome.err), (0, ""))
         return [line.partition("ms ")[2].replace("switch 10.0.0.9:40000 ", "") for line in outcome.out.splitlines()[:-1]]
@@ -139,7 +139,7 @@ class Captures(unittest.TestCase):
         self.assertEqual([text for direction, text in lines if direction == "from"], said)
 
     def test_bounded_lines(self):
-        """What was told is taken as it comes."""
+        """What was sent is taken as it comes."""
         scene = Scene()
         for _each in range(3000):
             scene.from_switch(message(Kind.ECHO_REQUEST, 1, bytes(4)))

@@ -208,7 +208,7 @@ class Command(unittest.TestCase):
         self.policy = file.name
 
     def of_alice(self, *words):
-        """What is told behind the message that is tried."""
+        """What is printed behind the message that is tried."""
         outcome = run_tool("try", "--slice", "alice", self.policy, *words)
         self.assertEqual((outcome.status, outcome.err), (0, ""))
         return [line.removeprefix("alice: ") for line in outcome.out.splitlines()[1:]]

@@ -40,7 +40,7 @@ SEED = 20
 
 
 def told_after(scene, count=len(UP)):
-    """What is told of a scene behind its beginning."""
+    """What is reported of a scene behind its beginning."""
     return scene.watched().told[count:]
 
 
@@ -153,7 +153,7 @@ class Connections(unittest.TestCase):
 
 class Refusals(unittest.TestCase):
     def refused(self, error, asked, slot=ALICE, policy=POLICY):
-        """What is told of a message that is answered by an error."""
+        """What is reported of a message that is answered by an error."""
         scene = Scene()
         scene.site.refused(SWITCH, slot, error, asked)
         watched = scene.watched(policy)

@@ -1,4 +1,4 @@
-"""How tests have captures watched: in this process, with what was told of them."""
+"""How tests have captures watched: in this process, with what was reported of them."""
 import contextlib
 import pathlib
 import tempfile
@@ -16,7 +16,7 @@ SWITCH = 0xA1
 
 
 class Watched:
-    """A watcher, and what it has told, without the moments."""
+    """A watcher, and what it has reported, without the timestamps."""
 
     def __init__(self, policy=POLICY, switch_port=(None, 6653), given=()):
         self.told = []

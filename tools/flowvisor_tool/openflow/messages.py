@@ -275,7 +275,7 @@ def malformed_text(text, message):
 
 
 def message_text(message):
-    """A message in one line. One that isn't well formed is told as such, with its bytes."""
+    """A message in one line. One that isn't well formed is reported so, with its bytes."""
     if len(message) < HEADER.size:
         return malformed_text(f"length {len(message)}, less than {HEADER.size}", message)
     header = Header.of(message)

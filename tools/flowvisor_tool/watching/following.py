@@ -28,8 +28,8 @@ MARKS = SYN | FIN | RST
 class Follower:
     """Follows the connections of a policy's proxy through a capture, and tells an observer what happens.
 
-    The observer has `readers(role, is_peer)`, who reads messages, and is told by `called`, `up` and `ended`; `observe_second`
-    is called where a second of the capture begins.
+    The observer has `readers(role, is_peer)`, who reads messages, and `called`, `up` and `ended`, which report connections;
+    `observe_second` is called where a second of the capture begins.
     """
 
     def __init__(self, ends, observer, observe_second):

@@ -8,7 +8,7 @@ from .messages import readers_of
 from .parties import MOST_SENT_BYTES
 from .refusals import code_text, is_flow_mod
 
-# How many refusals, and how many packets for nobody, are told one by one in a second; the others by their number.
+# How many refusals, and how many packets for nobody, are reported one by one in a second; the others by their number.
 MOST_TOLD = 5
 PROXY_SLOT = 0xFF
 PAIR_AT, PRIORITY_AT, FLOW_REMOVED_PRIORITY_AT = HEADER.size, 62, 56
@@ -135,7 +135,7 @@ class Hearing:
             self.world.attach(link, switch)
 
     def hear_refusal(self, messages, data, at, length):
-        """A controller is told an error."""
+        """A controller is sent an error."""
         here = messages.owner.link.view
         if here is None or length < 12:
             return

@@ -68,7 +68,7 @@ class SliceHere(Party):
         self.refused = collections.Counter()  # by type and code
         self.refused_before = 0
         self.refusals = collections.deque(maxlen=MOST_REFUSALS)
-        self.told = 0  # refusals of this second that were told one by one
+        self.told = 0  # refusals of this second that were reported one by one
         self.pieces = 0  # flow-mods that the switch was sent for it
         self.entries = 0
         self.entries_at_least = False

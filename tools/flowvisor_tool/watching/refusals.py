@@ -69,7 +69,7 @@ class Refusals:
         return refused_text(data)
 
     def reason(self, one, datapath, error, data, message):
-        """Why it was refused, as far as that can be told; empty where it can't."""
+        """Why it was refused, as far as that can be known; empty where it can't."""
         if error == FLOW_EPERM and is_flow_mod(data):
             return self.outside(one, datapath, data, message)
         if error == EPERM:
@@ -109,7 +109,7 @@ class Refusals:
         return f"{rate}, or it names a port that isn't the slice's"
 
     def foreign_packet(self, one, datapath, message):
-        """Whose the packet of a packet-out is, where it isn't the slice's; empty where it is, or can't be told."""
+        """Whose the packet of a packet-out is, where it isn't the slice's; empty where it is, or can't be known."""
         buffer, in_port, size = PACKET_OUT_START.unpack_from(message, HEADER.size)
         if buffer != NO_BUFFER:
             return ""

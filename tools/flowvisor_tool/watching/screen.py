@@ -3,7 +3,7 @@ INDENT = "  "
 
 
 def screen_of(state, columns, lines):
-    """The text of one screen: what doesn't fit is told by its number of lines."""
+    """The text of one screen: what doesn't fit is given by its number of lines."""
     rows = [row[:columns] for row in rows_of(state)]
     if len(rows) > lines:
         rows = rows[: lines - 1] + [f".. and {len(rows) - lines + 1} lines more"[:columns]]

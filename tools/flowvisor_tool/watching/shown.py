@@ -22,7 +22,7 @@ class Teller:
     def __init__(self, names):
         self.names = names  # of the slices, by slot
         self.lines = []
-        self.told = {}  # by the messages of a side, how many of its bytes were told to be missing, or not understood
+        self.told = {}  # by the messages of a side, how many of its bytes were reported as missing, or not understood
         self.follower = None
         self.first = None  # the time of the first packet
 
@@ -49,7 +49,7 @@ class Teller:
         return f"{self.names.get(link.role, f'slot {link.role}')} {spelled(link.client)}"
 
     def called(self, link):
-        """A connection is asked for: it is told of where it is agreed to, or refused."""
+        """A connection is asked for: it is reported where it is agreed to, or refused."""
 
     def up(self, link):
         """A connection is up."""

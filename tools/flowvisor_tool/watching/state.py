@@ -9,7 +9,7 @@ SHOWN_HAPPENINGS = 60
 
 
 def state_of(world, follower, policy):
-    """All that is shown, at the moment of the capture that it is now."""
+    """All that is shown, at the time of the capture that it is now."""
     now = world.clock()
     return {
         "policy": str(policy),

@@ -14,7 +14,7 @@ LATEST = 5
 
 
 def moment_text(time):
-    """A moment of a capture, in UTC."""
+    """A time of a capture, in UTC."""
     try:
         moment = datetime.datetime.fromtimestamp(time, datetime.timezone.utc)
     except (OverflowError, OSError, ValueError):
@@ -62,7 +62,7 @@ class World:
             self.controller_up(link)
 
     def switch_up(self, link):
-        """A switch has connected. Which one it is is told by its features."""
+        """A switch has connected. Its features say which one it is."""
         switch = SwitchHere(self.slices, link.since)
         switch.address = spelled(link.client)
         self.make_room()
