@@ -51,7 +51,7 @@ HasBadValue part members key = (d : Data) × (get_member key members ≡ Some d)
 abbrev pub NamesNoSliceAt : Keys → ℕ → Members → PolicyFault → Type 0
 NamesNoSliceAt Rule index members fault = (fault ≡ UnknownSlice index) × (IsKey members (codes "write") ⊎ IsKey members (codes "read"))
 NamesNoSliceAt Port index members fault = (fault ≡ UnknownPortSlice index) × IsKey members (codes "slice")
-NamesNoSliceAt kind index members fault = ⊥
+NamesNoSliceAt kind index _ fault = ⊥
 
 -- a fault of this table: at a key that it needs and lacks, a known one whose value is bad, or the least unknown one; or, of a rule or a port table, by its number, with a field or names that are there
 abbrev pub StandsIn : Keys → ℕ → Members → ReadFault → Type 0

@@ -92,10 +92,17 @@ impl Part<Words> for TraceReader {
     fn answer(&mut self, (slices, words): &Words) -> Result<String, AllocError> {
         let file = file_of(self.alloc, words)?;
         let found = trace_items(self.alloc, &file, *slices);
-        match (found, accept_trace(&file, *slices)) {
-            (Ok(found), Ok(())) => told(self.alloc, &found),
-            (Err(fault), Err(other)) if fault == other => told(self.alloc, &fault),
-            (_, accepted) => told(self.alloc, &accepted),
+        let accepted = accept_trace(&file, *slices);
+        match (&found, &accepted) {
+            (Ok(found), Ok(())) => told(self.alloc, found),
+            (Err(fault), Err(other)) => {
+                if fault == other {
+                    told(self.alloc, fault)
+                } else {
+                    told(self.alloc, &accepted)
+                }
+            }
+            _ => told(self.alloc, &accepted),
         }
     }
 }
