@@ -98,7 +98,9 @@ fn a_played_recording_leaves_the_desks_of_its_switches(rt: HostRuntime) -> Resul
     let recording = bytes(alloc, RECORDING)?;
     let policy = policy_text::read(alloc, POLICY.as_bytes())?;
     let _records = items(alloc, &recording, policy.slices().len() as u8)?;
-    let played = played(alloc, &policy, &recording)?;
+    let Ok(played) = played(alloc, &policy, &recording) else {
+        return Err(Fail::new(format_args!("the recording isn't played")));
+    };
     assert_eq!(rt; played.events(), 5);
     assert!(rt; played.desk(0).is_some());
     assert!(rt; played.desk(1).is_none());
