@@ -307,6 +307,15 @@ class Counts(unittest.TestCase):
             (other,) = (switch for switch in watched.watcher.world.switches if switch.datapath == OTHER_SWITCH)
             self.assertEqual((len(other.entries), other.slices[ALICE].entries_at_least), (5, True))
 
+    def test_an_entry_that_is_refused_gives_its_room_back(self):
+        scene = Scene()
+        scene.site.connect_switch(OTHER_SWITCH)
+        self.book(scene, SWITCH, range(5))
+        scene.from_switch(message(Kind.ERROR, 1, struct.pack(">HH", 3, 0) + slice_flow_mod(80, 1, 1)[:64]))
+        self.book(scene, OTHER_SWITCH, range(3))
+        watched = self.see_with_room(scene, 5)
+        self.assertEqual([watched.slice("alice", place)["entries"] for place in (0, 1)], [4, 1])
+
     def test_a_connection_gives_its_room_back_where_its_switch_was_there_before(self):
         scene = Scene()
         self.book(scene, SWITCH, range(2))
