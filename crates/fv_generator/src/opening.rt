@@ -13,7 +13,7 @@ use std::alloc::{AllocError, Global};
 /// The transaction id under which the proxy asks a switch for its features.
 const FEATURES_XID: u32 = 0xff00_0001;
 
-/// What the switch tells of itself: four ports, one of them its own.
+/// What the switch reports of itself: four ports, one of them its own.
 #[tactic(auto, unfolding(crate::specs::Made::features_message))]
 fn features(alloc: Global) -> Result<Frame, AllocError>
     ensures { IfOk result (λ f. f ≡ features_message) }
