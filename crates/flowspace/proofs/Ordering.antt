@@ -1,5 +1,5 @@
 -- The order of rules: what `in_order` gives, and that nothing else is in rule order.
-use Rattle.std.proofs.Common.{◌≡◌, ℕ, ◌+◌, Bool, List, filter, AllPairs, refl, sym, ◌∙◌, arith, None}
+use Rattle.std.proofs.Common.{◌≡◌, ℕ, ◌+◌, Bool, List, filter, AllPairs, refl, sym, ◌∙◌, arith, inl, None}
 use Rattle.std.specs.List.Sorted.{IsPermutation, IsSortedBy, IsStableBy}
 use Rattle.flowspace.specs.declared.rules.Rule.{Rule}
 use Rattle.flowspace.specs.declared.order.FiledRule.{FiledRule}
@@ -50,7 +50,7 @@ example p = record {
 
 -- what a stable sort by descending priority makes
 pub in_order-from_sort : (rs sorted : List Rule) → IsSortedBy (goes_before rank_of) sorted → IsStableBy (goes_before rank_of) rs sorted → sorted ≡ in_order rs
-in_order-from_sort rs sorted up stable = ranked-from_sort rank_of example (λ p. refl) rs sorted up stable
+in_order-from_sort rs sorted up stable = ranked-from_sort rank_of example (λ p. inl refl) rs sorted up stable
 
 pub ranked-from_filed_sort : (rs sorted : List FiledRule) → IsSortedBy (goes_before filed_rank) sorted → IsStableBy (goes_before filed_rank) rs sorted → sorted ≡ ranked filed_rank rs
-ranked-from_filed_sort rs sorted up stable = ranked-from_sort filed_rank (λ p. record { place = 0; rule = example p }) (λ p. refl) rs sorted up stable
+ranked-from_filed_sort rs sorted up stable = ranked-from_sort filed_rank (λ p. record { place = 0; rule = example p }) (λ p. inl refl) rs sorted up stable

@@ -1,5 +1,5 @@
 -- Lists by descending rank: what `ranked` gives, and that nothing else is in that order.
-use Rattle.std.proofs.Common.{◌≡◌, ℕ, zero, suc, ◌+◌, ◌<◌, ◌≤◌, Bool, true, false, cond, leb, List, [], ◌∷◌, length, get_or, map, filter, refl, sym, ap, ◌∙◌, arith, inl, inr, leb-true, leb-false, eqb-true, eq-eqb, not, ◌&&◌, ◌==◌, is_lt, nat_cmp}
+use Rattle.std.proofs.Common.{◌≡◌, ◌⊎◌, ℕ, zero, suc, ◌+◌, ◌<◌, ◌≤◌, Bool, true, false, cond, leb, List, [], ◌∷◌, length, get_or, map, filter, refl, sym, ap, ◌∙◌, arith, inl, inr, leb-true, leb-false, eqb-true, eq-eqb, not, ◌&&◌, ◌==◌, is_lt, nat_cmp}
 use mathlib.Core.Bool.{and_comm}
 use Rattle.std.specs.Prelude.{find}
 use Rattle.std.proofs.lemmas.Bool.{cond-true, cond-false, cases_Bool}
@@ -228,16 +228,29 @@ module _ {A : Type 0} (rank : A → ℕ) where
 
   -- ---- what a sort gives
 
-  filter-tied : (example : ℕ → A) → ((p : ℕ) → rank (example p) ≡ p) → (p : ℕ) (xs : List A) → filter (ties goes_before (example p)) xs ≡ filter (has_rank p) xs
-  filter-tied example ranks p xs =
-      filter_agree (ties goes_before (example p)) (has_rank p) (λ x. tied (rank (example p)) (rank x) ∙ ap (λ n. rank x == n) (ranks p)) xs
+  filter-tied : (p : ℕ) (example : A) → rank example ≡ p → (xs : List A) → filter (ties goes_before example) xs ≡ filter (has_rank p) xs
+  filter-tied p example is xs =
+      filter_agree (ties goes_before example) (has_rank p) (λ x. tied (rank example) (rank x) ∙ ap (λ n. rank x == n) is) xs
 
-  -- what a stable sort by descending rank makes, where each rank has an element
-  pub ranked-from_sort : (example : ℕ → A) → ((p : ℕ) → rank (example p) ≡ p) → (xs sorted : List A) → IsSortedBy goes_before sorted → IsStableBy goes_before xs sorted → sorted ≡ ranked rank xs
+  -- an element has this rank, or none has it
+  abbrev pub IsRankOrNone : ℕ → A → Type 0
+  IsRankOrNone p example = (rank example ≡ p) ⊎ ((x : A) → has_rank p x ≡ false)
+
+  none_ranked : (p : ℕ) → ((x : A) → has_rank p x ≡ false) → (xs : List A) → filter (has_rank p) xs ≡ []
+  none_ranked p none [] = refl
+  none_ranked p none (x ∷ xs) = left_by (has_rank p) x xs (none x) ∙ none_ranked p none xs
+
+  -- a stable sort keeps the elements of one rank as they stood
+  kept_ranks : (p : ℕ) (example : A) → IsRankOrNone p example → (xs sorted : List A) → IsStableBy goes_before xs sorted → filter (has_rank p) sorted ≡ filter (has_rank p) xs
+  kept_ranks p example (inl is) xs sorted stable = sym (filter-tied p example is sorted) ∙ stable example ∙ filter-tied p example is xs
+  kept_ranks p example (inr none) xs sorted stable = none_ranked p none sorted ∙ sym (none_ranked p none xs)
+
+  -- what a stable sort by descending rank makes
+  pub ranked-from_sort : (example : ℕ → A) → ((p : ℕ) → IsRankOrNone p (example p)) → (xs sorted : List A) → IsSortedBy goes_before sorted → IsStableBy goes_before xs sorted → sorted ≡ ranked rank xs
   ranked-from_sort example ranks xs sorted up stable =
       same_from_filters sorted (ranked rank xs) (Falls-neighbours sorted (λ k d lt. ge_from_not_lt _ _ (up k d (omega arith) lt)))
       (Falls-ranked xs)
-      (λ p. sym (filter-tied example ranks p sorted) ∙ stable (example p) ∙ filter-tied example ranks p xs ∙ sym (filter-ranked p xs))
+      (λ p. kept_ranks p (example p) (ranks p) xs sorted stable ∙ sym (filter-ranked p xs))
 
 -- an order by a rank that a view gives is the order of what it views
 map-placed : {A B : Type 0} (view : A → B) (rank : B → ℕ) (x : A) (ys : List A) → map view (placed (λ y. rank (view y)) x ys) ≡ placed rank (view x) (map view ys)

@@ -63,8 +63,8 @@ pub struct FeaturesView<'a> {
     pub ports: &'a [[u8; PORT]],
 }
 
-/// The bytes of each port.
-fn ports_in(bytes: &[u8]) -> &[[u8; PORT]]
+/// The bytes of each port, 48 for each; what is left behind the last whole one is passed over.
+pub fn ports_in(bytes: &[u8]) -> &[[u8; PORT]]
     ensures value { result.now ≡ ports_in bytes.now }
     ensures count { length result.now ≡ length bytes.now / 48 }
 {

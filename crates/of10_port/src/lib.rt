@@ -8,6 +8,6 @@ mod port;
 pub mod protocol;
 mod status;
 
-pub use features::{Features, FeaturesView, has_whole_ports};
-pub use port::{Port, Ports};
+pub use features::{Features, FeaturesView, has_whole_ports, ports_in};
+pub use port::{Port, Ports, put_ports};
 pub use status::{PortStatus, PortStatusView};

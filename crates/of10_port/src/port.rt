@@ -111,7 +111,7 @@ impl Ports {
 }
 
 /// Appends the bytes of the ports.
-pub(crate) fn put_ports(out: &mut Vec<u8>, ports: &[Port]) -> Result<(), AllocError>
+pub fn put_ports(out: &mut Vec<u8>, ports: &[Port]) -> Result<(), AllocError>
     ensures written { OnOk result (out.new.items ≡ out.old.items ++ port_bytes ports.now) }
     ensures size { OnOk result (length (port_bytes ports.now) ≡ 48 * length ports.now) }
 {
