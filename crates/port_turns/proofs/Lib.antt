@@ -18,3 +18,4 @@ pub mod SentShown
 pub mod Stays
 pub mod SentLengths
 pub mod Features
+pub mod Ordered

@@ -94,7 +94,7 @@ at_length : (pairs : Pairs) (places : Places) (f : List ℕ) → AreWithin f pla
 at_length pairs (at.Port place) f within = port_length pairs place f within.1
 at_length pairs (at.Match place) f within = match_length pairs place f within.1
 at_length pairs (at.Entries kind) f within = behind_length pairs (piece.Entry kind) 12 f within
-at_length pairs at.Ports f within = behind_length pairs piece.Port 32 f within
+at_length pairs at.Ports f within = behind_length pairs piece.Port 32 f within.0
 at_length pairs at.Nowhere f within = refl
 
 -- ---- where numbers stand, they stand within the message
@@ -116,7 +116,7 @@ by_within kind f =
     (either f (kind == 12 && length f == 64) (at.Port 16) _ (λ e. let long = eqb-true (length f) 64 (and_parts (kind == 12) (length f == 64) e).1 in (omega arith, omega (arith, long)))
     (either f (kind == 21 && leb 16 (length f)) (at.Port 8) _ (λ e. let long = leb-true 16 (length f) (and_parts (kind == 21) (leb 16 (length f)) e).1 in (omega arith, omega (arith, long)))
     (either f (kind == 17 && leb 12 (length f)) (at.Entries (number_at f 8 2)) _ (λ e. leb-true 12 (length f) (and_parts (kind == 17) (leb 12 (length f)) e).1)
-    (either f (kind == 6 && has_whole_ports f) at.Ports at.Nowhere (λ e. ports_long f (and_parts (kind == 6) (has_whole_ports f) e).1) tt)))))
+    (either f (kind == 6 && has_whole_ports f) at.Ports at.Nowhere (λ e. let whole = (and_parts (kind == 6) (has_whole_ports f) e).1 in (ports_long f whole, whole)) tt)))))
 
 places_within : (f : List ℕ) → AreWithin f (places_of f)
 unfolding places_of

@@ -1,14 +1,15 @@
 -- Messages for a slice in which no port number stands stay as they are.
-use Rattle.std.proofs.Common.{◌≡◌, ◌⊎◌, ℕ, zero, suc, ◌==◌, ◌||◌, ◌&&◌, not, eqb, leb, false, List, [], ◌∷◌, ◌++◌, length, take, drop, refl, ap, ◌∙◌, inl, inr}
-use Rattle.std.proofs.lemmas.Bool.{cases_Bool, or_parts}
+use Rattle.std.proofs.Common.{◌≡◌, ◌⊎◌, ℕ, zero, suc, ◌==◌, ◌||◌, ◌&&◌, not, eqb, leb, nat_lt, true≢false, true, false, List, [], ◌∷◌, ◌++◌, map, length, take, drop, refl, sym, ap, ap₂, ◌∙◌, inl, inr, arith}
+use Rattle.std.proofs.lemmas.Bool.{cases_Bool, or_parts, lt-ltb}
 use Rattle.std.proofs.lemmas.List.{take-append-drop}
 use Rattle.of10_message.specs.Heads.{version_of, message_kind}
 use Rattle.of10_ctl.specs.Frames.{is_bad}
 use Rattle.of10_model.specs.Normal.{number_at}
 use Rattle.flowspace.specs.Swaps.{Pairs}
 use Rattle.port_turns.specs.declared.places.Piece.TheVariants as piece
+use Rattle.port_turns.specs.declared.places.Places.{Places}
 use Rattle.port_turns.specs.declared.places.Places.TheVariants as at
-use Rattle.port_turns.specs.Sent.{tells_ports, has_port_entries, piece_size, turn_pieces, turn_at, places_by, places_of, sorted_at, turned_numbers, turn_out}
+use Rattle.port_turns.specs.Sent.{tells_ports, has_port_entries, piece_size, turn_pieces, turn_at, places_by, places_of, ports_sorted, sorted_at, turned_numbers, turn_out}
 
 nowhere_by : (kind : ℕ) (f : List ℕ) → tells_ports kind ≡ false → places_by kind f ≡ at.Nowhere
 nowhere_by kind f none =
@@ -52,6 +53,22 @@ entries_stay pairs kind (suc n) bytes none =
 pub none_stays : (f : List ℕ) → turn_out [] f ≡ f
 unfolding turn_out
 none_stays f = refl
+
+-- so does each of messages for a slice that has no swaps
+pub none_out : (pairs : Pairs) → nat_lt 0 (length pairs) ≡ false → (messages : List (List ℕ)) → map (turn_out pairs) messages ≡ messages
+none_out [] none [] = refl
+none_out [] none (message ∷ messages) = ap₂ (λ (f : List ℕ) (fs : List (List ℕ)). f ∷ fs) (none_stays message) (none_out [] none messages)
+none_out (pair ∷ others) none messages = absurd (true≢false (sym (lt-ltb 0 (length (pair ∷ others)) (omega arith)) ∙ none))
+
+-- a message that tells ports is turned, and then its ports are sorted
+pub out_sorted : (pairs : Pairs) (f turned new : List ℕ) (places : Places) → nat_lt 0 (length pairs) ≡ true → places ≡ places_of f → places ≡ at.Ports → turned ≡ turn_at pairs places f → new ≡ ports_sorted turned → new ≡ turn_out pairs f
+unfolding turn_out turned_numbers
+out_sorted [] f turned new places some is ports by sorted = absurd (true≢false (sym some))
+out_sorted (pair ∷ others) f turned new places some is ports by sorted =
+    sorted
+    ∙ ap ports_sorted by
+    ∙ ap (λ p. ports_sorted (turn_at (pair ∷ others) p f)) is
+    ∙ ap (λ p. sorted_at p (turn_at (pair ∷ others) (places_of f) f)) (sym ports ∙ is)
 
 -- a statistics reply is looked at by the type of its entries
 stats_by : (kind : ℕ) (f : List ℕ) → kind ≡ 17 → (places_by kind f ≡ at.Entries (number_at f 8 2)) ⊎ (places_by kind f ≡ at.Nowhere)

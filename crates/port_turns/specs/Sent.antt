@@ -1,5 +1,5 @@
 -- The bytes of a message for a slice with its port numbers exchanged where they stand: all other bytes stay. Sections are those of OpenFlow 1.0.0; that numbers are exchanged, and which message has the form of its type, is this proxy's own rule.
-use Rattle.std.specs.Prelude.{ℕ, zero, suc, ◌+◌, ◌-◌, ◌≤◌, ◌==◌, ◌&&◌, ◌||◌, not, leb, Bool, if◌then◌else◌, List, [], ◌∷◌, ◌++◌, length, take, drop, is_ok, unwrap_or}
+use Rattle.std.specs.Prelude.{ℕ, zero, suc, ◌+◌, ◌-◌, ◌≤◌, ◌==◌, ◌&&◌, ◌||◌, not, leb, Bool, if◌then◌else◌, List, [], ◌∷◌, ◌++◌, length, take, drop, is_ok, unwrap_or, IsTrue}
 use Rattle.of10_model.specs.Normal.{number_at}
 use Rattle.of10_action.specs.Reading.{read_all}
 use Rattle.of10_ctl.specs.declared.kind.TheConstants.{FEATURES_REPLY, PACKET_IN, FLOW_REMOVED, PORT_STATUS, STATS_REPLY, QUEUE_GET_CONFIG_REPLY}
@@ -103,9 +103,13 @@ unfoldable pub turned_numbers : Pairs → List ℕ → List ℕ
 turned_numbers [] f = f
 turned_numbers (pair ∷ others) f = turn_at (pair ∷ others) (places_of f) f
 
+-- how far the number of a port is below the greatest of two bytes
+abbrev pub descent : List ℕ → ℕ
+descent port = 65535 - port_number port
+
 -- ports by ascending number, and those of one number as they stood
 abbrev pub in_number_order : List (List ℕ) → List (List ℕ)
-in_number_order ports = ranked (λ port. 65535 - port_number port) ports
+in_number_order ports = ranked descent ports
 
 -- a message that tells a switch's ports, with the ports in this order
 abbrev pub ports_sorted : List ℕ → List ℕ
@@ -132,5 +136,5 @@ abbrev pub AreWithin : List ℕ → Places → Type 0
 AreWithin f (at.Port place) = (8 ≤ place) × (place + 2 ≤ length f)
 AreWithin f (at.Match place) = (8 ≤ place) × (place + 40 ≤ length f)
 AreWithin f (at.Entries kind) = 12 ≤ length f
-AreWithin f at.Ports = 32 ≤ length f
+AreWithin f at.Ports = (32 ≤ length f) × IsTrue (has_whole_ports f)
 AreWithin f at.Nowhere = Unit {0}

@@ -5,7 +5,8 @@
 pub mod laws;
 mod places;
 mod sending;
+mod sorting;
 mod values;
 
-pub use sending::turn_numbers;
+pub use sending::{turn_each_out, turn_out};
 pub use values::{turned_flow_mod, turned_packet_out, turned_queues, turned_request};

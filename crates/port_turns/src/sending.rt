@@ -1,20 +1,22 @@
 //! Messages for a slice, with the numbers exchanged that its swaps name, in place.
 
-ghost use Rattle.std.specs.Prelude.{◌≡◌, ◌+◌, ◌-◌, ◌≤◌, ◌++◌, ◌==◌, ◌||◌, true, nat_lt, if◌then◌else◌, is_ok, length, take, drop};
+ghost use Rattle.std.specs.Prelude.{◌≡◌, ◌+◌, ◌-◌, ◌≤◌, ◌++◌, ◌==◌, ◌||◌, true, nat_lt, if◌then◌else◌, is_ok, length, map, take, drop, OnOk};
 ghost use Rattle.std.specs.List.{list_any};
 ghost use Rattle.of10_model.specs.Normal.{number_at};
 ghost use Rattle.of10_stats.specs.declared.protocol.TheConstants.{PORT, QUEUE};
 ghost use Rattle.of10_action.specs.Reading.{read_all};
 ghost use Rattle.flowspace.specs.Swaps.{is_swap_of, pairs_of};
 ghost use Rattle.port_turns.specs.Turns.{names_port, turn_list, turn_match, turn_port};
-ghost use Rattle.port_turns.specs.Sent.{entry_bytes, piece_size, port_size, turn_entry, turn_all, turn_at, turn_flow, turn_piece, turned_numbers, turned_part, AreWithin};
+ghost use Rattle.port_turns.specs.Sent.{entry_bytes, piece_size, port_size, turn_entry, turn_all, turn_at, turn_flow, turn_piece, turn_out, turned_part, AreWithin};
 
 use crate::places::{Piece, Places, places_of};
+use crate::sorting::sort_ports;
 use flowspace::{Swap, SwitchPolicy};
 use of10_action::ActionsView;
 use of10_ctl::Frame;
 use of10_model::wire::{u16_at, u32_at};
 use of10_stats::protocol::{FLOW, PORT, QUEUE};
+use std::alloc::{AllocError, Global};
 
 /// The port at a place is exchanged.
 fn turn_port(policy: &SwitchPolicy, slot: u8, frame: &mut Frame, at: usize)
@@ -197,15 +199,53 @@ pub(crate) fn has_swaps(policy: &SwitchPolicy, slot: u8) -> bool
     policy.has_swaps() && has_one_of(policy.swaps(), slot)
 }
 
-/// The port numbers of a message for the slice at a slot are those that it is shown, where the message has a
-/// form of OpenFlow 1.0.0 (section 5; that numbers are exchanged is this proxy's own rule). Takes no memory.
-#[tactic(auto, unfolding(crate::specs::Sent::turned_numbers))]
-pub fn turn_numbers(policy: &SwitchPolicy, slot: u8, frame: &mut Frame)
-    ensures value { frame.new ≡ turned_numbers (pairs_of policy.now.swaps slot) frame.old }
-    ensures size { length frame.new ≡ length frame.old }
+/// A message for the slice at a slot has the port numbers that the slice is shown, where it has a form of
+/// OpenFlow 1.0.0, and a FEATURES_REPLY has its ports in ascending order of these (section 5; that numbers are
+/// exchanged, and the order, are this proxy's own rule). Memory is taken for a FEATURES_REPLY alone.
+#[tactic(auto, unfolding(crate::specs::Sent::turned_numbers, crate::specs::Sent::turn_out))]
+pub fn turn_out(
+    alloc: Global,
+    policy: &SwitchPolicy,
+    slot: u8,
+    frame: &mut Frame,
+) -> Result<(), AllocError>
+    ensures { OnOk result (frame.new ≡ turn_out (pairs_of policy.now.swaps slot) frame.old) }
 {
     if has_swaps(policy, slot) {
         let places = places_of(frame);
         turn_at(policy, slot, frame, places);
+        if matches!(places, Places::Ports) {
+            sort_ports(alloc, frame)?;
+        }
     }
+    Ok(())
+}
+
+fn turn_all_out(
+    alloc: Global,
+    policy: &SwitchPolicy,
+    slot: u8,
+    frames: &mut [Frame],
+) -> Result<(), AllocError>
+    ensures { OnOk result (frames.new ≡ map (turn_out (pairs_of policy.now.swaps slot)) frames.old) }
+{
+    for frame in frames.iter_mut() {
+        turn_out(alloc, policy, slot, frame)?;
+    }
+    Ok(())
+}
+
+/// So it is of each of these messages. A slice without swaps costs one test.
+pub fn turn_each_out(
+    alloc: Global,
+    policy: &SwitchPolicy,
+    slot: u8,
+    frames: &mut Vec<Frame>,
+) -> Result<(), AllocError>
+    ensures { OnOk result (frames.new.items ≡ map (turn_out (pairs_of policy.now.swaps slot)) frames.old.items) }
+{
+    if has_swaps(policy, slot) {
+        turn_all_out(alloc, policy, slot, frames)?;
+    }
+    Ok(())
 }
