@@ -9,6 +9,7 @@ import struct
 import subprocess
 import termios
 import unittest
+import unittest.mock
 
 from running import EXAMPLES, SCRIPT, run_tool
 
@@ -17,17 +18,18 @@ import cases_of_connections
 import cases_of_switches
 from from_pcap_cases import one, records_of, small_run, small_run_6
 from made_captures import Talk, pcap, pcapng, timed
-from watched import POLICY, START, SWITCH, Scene, Watched, policy_file
+from watched import POLICY, START, SWITCH, Scene, Watched, busy_scene, policy_file
 
 from devices.messages import Kind, any_match, flow_mod, output, packet_out, port_match
-from devices.traffic import ACK, FIN, RST, SYN, Site, Wire, slice_flow_mod
+from devices.traffic import ACK, FIN, RST, SYN, Connection, Site, Wire, slice_flow_mod
 from flowvisor_tool.ends import end_of
 from flowvisor_tool.watching.following import KEPT, MOST_LINKS
 from flowvisor_tool.watching.links import Link
 from flowvisor_tool.watching.matching import spelled_anew
-from flowvisor_tool.watching.parties import MOST_CODES
+from flowvisor_tool.watching.parties import MOST_CODES, Room
+from flowvisor_tool.watching.screen import LEAST_COLUMNS, lines_of, rows_of, screen_of
 from flowvisor_tool.watching.world import MOST_HAPPENINGS, MOST_SWITCHES, moment_text
-from sunworsted import message, packet_in, tcp_packet
+from sunworsted import features_reply, message, packet_in, tcp_packet
 
 UP = [
     "switch at 10.1.0.161:20000: connected",
@@ -36,6 +38,7 @@ UP = [
     "switch 00000000000000a1: bob: up: 127.0.0.1:6634",
 ]
 ALICE, BOB = 0, 1
+OTHER_SWITCH = 0xB2
 SEED = 20
 
 
@@ -263,6 +266,67 @@ class Counts(unittest.TestCase):
             scene.to_switch(slice_flow_mod(80, number, number))
         alice = scene.watched().slice("alice")
         self.assertEqual((alice["entries"], alice["entries_at_least"]), (1024, True))
+
+    def see_with_room(self, scene, most):
+        """A scene is watched with room for so many entries, which are never more."""
+        watched = Watched()
+        world = watched.watcher.world
+        world.room = Room(most)
+        for part in scene.parts:
+            watched.watcher.feed(part)
+            self.assertEqual(sum(len(switch.entries) for switch in world.switches), most - world.room.entries)
+            self.assertGreaterEqual(world.room.entries, 0)
+        return watched
+
+    def book(self, scene, datapath, numbers):
+        """A switch is sent flow-mods of alice."""
+        link = scene.site.switches[datapath]
+        for number in numbers:
+            link.send(link.server, slice_flow_mod(80, number, number))
+
+    def test_all_switches_have_one_room_for_entries(self):
+        def lose(scene):
+            scene.site.lose_switch(SWITCH)
+
+        def forget(scene):
+            scene.site.connect_switch(0xC3)
+
+        for remove in (lose, forget):
+            scene = Scene()
+            scene.wait(1)
+            scene.site.connect_switch(OTHER_SWITCH)
+            self.book(scene, SWITCH, range(3))
+            self.book(scene, OTHER_SWITCH, range(4))
+            with unittest.mock.patch("flowvisor_tool.watching.world.MOST_SWITCHES", 2):
+                watched = self.see_with_room(scene, 5)
+                alices = [watched.slice("alice", place) for place in (0, 1)]
+                self.assertEqual([(one["entries"], one["entries_at_least"]) for one in alices], [(3, False), (2, True)])
+                remove(scene)
+                self.book(scene, OTHER_SWITCH, range(10, 20))
+                watched = self.see_with_room(scene, 5)
+            (other,) = (switch for switch in watched.watcher.world.switches if switch.datapath == OTHER_SWITCH)
+            self.assertEqual((len(other.entries), other.slices[ALICE].entries_at_least), (5, True))
+
+    def test_an_entry_that_is_refused_gives_its_room_back(self):
+        scene = Scene()
+        scene.site.connect_switch(OTHER_SWITCH)
+        self.book(scene, SWITCH, range(5))
+        scene.from_switch(message(Kind.ERROR, 1, struct.pack(">HH", 3, 0) + slice_flow_mod(80, 1, 1)[:64]))
+        self.book(scene, OTHER_SWITCH, range(3))
+        watched = self.see_with_room(scene, 5)
+        self.assertEqual([watched.slice("alice", place)["entries"] for place in (0, 1)], [4, 1])
+
+    def test_a_connection_gives_its_room_back_where_its_switch_was_there_before(self):
+        scene = Scene()
+        self.book(scene, SWITCH, range(2))
+        link = scene.site.switches[SWITCH] = Connection(scene.site.wire, (Site.host(SWITCH), 9), Site.PROXY)
+        link.open()
+        self.book(scene, SWITCH, range(2))
+        self.assertEqual(self.see_with_room(scene, 5).watcher.world.room.entries, 1)
+        scene.from_switch(features_reply(1, SWITCH, (1,)))
+        self.assertEqual(self.see_with_room(scene, 5).watcher.world.room.entries, 5)
+        self.book(scene, SWITCH, range(9))
+        self.assertEqual(self.see_with_room(scene, 5).slice("alice")["entries"], 5)
 
     def test_packets_for_nobody(self):
         scene = Scene()
@@ -561,6 +625,39 @@ class Screens(unittest.TestCase):
             self.assertEqual([line.partition(" ")[2] for line in log[:4]], UP)
             self.assertEqual(log[0].partition(" ")[0], "2023-11-14T22:13:20.000Z")
             self.assertEqual(len(log), 5)
+
+    def test_rows_are_wrapped(self):
+        """No line is longer than the terminal has columns, and none loses or cuts a number."""
+        state = busy_scene().watched().watcher.state()
+        words = [re.findall(r"\w+", row) for row in rows_of(state)]
+        for columns in (60, 80, 132):
+            lines = screen_of(state, columns, 1000).split("\n")
+            self.assertLessEqual(max(map(len, lines)), columns)
+            self.assertEqual(re.findall(r"\w+", " ".join(lines)), sum(words, []))
+        screen = screen_of(state, 80, 1000)
+        self.assertIn("1000/s", screen)
+        self.assertIn("rule 0 (line", screen)
+        self.assertIn("OFPET_FLOW_MOD_FAILED OFPFMFC_EPERM", screen)
+
+    def test_lines_of_a_row(self):
+        for row, columns, lines in (
+            ("", 80, [""]),
+            ("  entries 40 of 1024; rate 42 of 1,000/s", 30, ["  entries 40 of 1024; rate 42", "      of 1,000/s"]),
+            ("a packet: tcp,in_port=3,tp_src=1024,tp_dst=443", 30, ["a packet: tcp,in_port=3,", "    tp_src=1024,tp_dst=443"]),
+            ("  flow-mods 40, as 1,000", 20, ["  flow-mods 40, as", "      1,000"]),
+            ("1" * 50, 30, ["1" * 30, "    " + "1" * 20]),
+            ("a " * 20, 1, ["a " * (LEAST_COLUMNS // 2 - 1) + "a", "    " + "a " * 7 + "a", "    a a"]),
+        ):
+            self.assertEqual(lines_of(row, columns), lines)
+
+    def test_before_the_first_packet(self):
+        watched = Watched()
+        scene = Scene()
+        for data in (b"", scene.parts[0]):
+            watched.watcher.feed(data)
+            self.assertEqual(screen_of(watched.watcher.state(), 80, 24).split("\n")[0], "policy.toml  no packet yet  0 packets")
+        watched.watcher.feed(scene.parts[1])
+        self.assertEqual(watched.watcher.state()["time"], moment_text(START))
 
     def test_how_it_is_captured(self):
         outcome = run_tool("watch", "--how", POLICY)

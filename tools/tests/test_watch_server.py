@@ -20,9 +20,8 @@ import urllib.request
 from running import SCRIPT
 
 from test_watch import UP
-from watched import POLICY, SWITCH, Scene
+from watched import POLICY, SWITCH, Scene, busy_scene
 
-from devices.messages import any_match, flow_mod, output
 from devices.traffic import ACK, FIN, RST
 from flowvisor_tool.watching.page import PAGE
 from flowvisor_tool.watching.server import LARGEST_HEAD, MOST_CONNECTIONS, Server
@@ -37,17 +36,6 @@ for family in text_string_to_metric_families(sys.stdin.read()):
     for sample in family.samples:
         print(family.type, sample.name, sorted(sample.labels.items()), sample.value)
 """
-
-
-def busy_scene():
-    """Both slices speak, something is refused, a packet is for nobody, and a controller leaves."""
-    scene = Scene()
-    scene.wait(1)
-    scene.site.exchange(SWITCH, 0, 3)
-    scene.site.refused(SWITCH, 1, (3, 2), flow_mod(any_match(), output(2)))
-    scene.site.packet_for_nobody(SWITCH)
-    scene.site.lose_controller(SWITCH, 1)
-    return scene
 
 
 class Served(unittest.TestCase):

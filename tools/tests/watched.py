@@ -5,6 +5,7 @@ import tempfile
 
 from running import EXAMPLES
 
+from devices.messages import any_match, flow_mod, output
 from devices.traffic import Site, Wire
 from flowvisor_tool.captures import Problem
 from flowvisor_tool.watching.policies import watched_ends, watched_policy
@@ -94,3 +95,14 @@ class Scene:
         if problem is not None:
             raise AssertionError(problem)
         return watched
+
+
+def busy_scene():
+    """Both slices speak, something is refused, a packet is for nobody, and a controller leaves."""
+    scene = Scene()
+    scene.wait(1)
+    scene.site.exchange(SWITCH, 0, 3)
+    scene.site.refused(SWITCH, 1, (3, 2), flow_mod(any_match(), output(2)))
+    scene.site.packet_for_nobody(SWITCH)
+    scene.site.lose_controller(SWITCH, 1)
+    return scene

@@ -146,7 +146,7 @@ take_reply policy before dest =
     let q = waiting_of policy dest before in
     elim q.pending [ [] ↦ empty_reply policy (events_of before) dest q.choked | message ∷ later ↦ Message message ]
 
--- a reply to a step is right: the verdict on its event, or want of memory unless the event is the end of a connection
+-- a reply to a step is right: the verdict on its event, or out of memory unless the event is the end of a connection
 abbrev pub IsReply : PolicyView → List Operation → Timed → Result Verdict AllocError → Type 0
 IsReply policy before timed (Ok answered) = answered ≡ verdict policy (events_of before) timed
 IsReply policy before timed (Err fault) = is_down timed.event ≡ false

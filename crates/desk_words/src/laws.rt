@@ -5,7 +5,6 @@ ghost use Rattle.std.specs.declared.alloc.AllocError.{AllocError};
 ghost use Rattle.of10_port.specs.declared.features.Features.{Features};
 ghost use Rattle.flowspace.specs.Policies.{PolicyView};
 ghost use Rattle.recording.specs.Recordings.{Told};
-ghost use Rattle.desk_words.specs.declared.event.Event.TheVariants.{SwitchDown, SliceDown};
 ghost use Rattle.desk_words.specs.declared.event.Timed.{Timed};
 ghost use Rattle.desk_words.specs.declared.verdict.Verdict.{Verdict};
 ghost use Rattle.slice_words.specs.Items.{Settings};

@@ -6,11 +6,13 @@ mod dest;
 mod event;
 pub mod laws;
 mod phase;
+mod recorded;
 mod taken;
 mod verdict;
 
 pub use dest::Dest;
 pub use event::{Event, Timed};
 pub use phase::Phase;
+pub use recorded::carried;
 pub use taken::Taken;
 pub use verdict::Verdict;

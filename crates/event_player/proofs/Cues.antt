@@ -1,5 +1,5 @@
 -- Cues: those of events one after another, and what who hears only lines is told.
-use Rattle.std.proofs.Common.{◌≡◌, inl, inr, ℕ, ◌+◌, List, [], ◌∷◌, ◌++◌, length, map, refl, sym, ap, ◌∙◌, append_assoc, subst, Result, Ok, Err, arith}
+use Rattle.std.proofs.Common.{◌≡◌, inl, inr, ℕ, ◌+◌, List, [], ◌∷◌, ◌++◌, length, map, refl, ap, ◌∙◌, subst, Ok, Err}
 use Rattle.std.specs.List.{flat_map, enumerate_from}
 use Rattle.std.proofs.lemmas.Grind.{flat_map-append}
 use Rattle.flowspace.specs.Policies.{PolicyView}
@@ -10,7 +10,7 @@ use Rattle.desk_words.specs.Reports.{Line, lines_at, lines_from, all_lines}
 use Rattle.event_player.specs.declared.fault.ReportFault.{ReportFault}
 use Rattle.event_player.specs.declared.fault.ReportFault.TheVariants.{Memory}
 use Rattle.event_player.specs.declared.player.Player.{Player}
-use Rattle.event_player.specs.Telling.{Cue, Comes, Says, Outcome, ToldWhole, HeardPart, Tell, cues_at, cues_from, all_cues, says, ByLine, line_in, lines_in}
+use Rattle.event_player.specs.Telling.{Cue, Comes, Says, Outcome, ToldWhole, HeardPart, cues_at, cues_from, all_cues, says, ByLine, line_in, lines_in}
 use Rattle.event_player.specs.Players.{Scene, HasTold}
 
 -- ---- numbered events

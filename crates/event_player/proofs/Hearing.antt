@@ -44,7 +44,7 @@ pub tell_on : {A T C : Type 0} (Tells : T → C → Outcome → T → Type 0) (f
 tell_on Tells fault (Err e) lines before now same part = subst (λ (f : ReportFault). HeardPart Tells f before lines now) (sym same) part
 tell_on Tells fault (Ok value) lines before now same part = absurd same
 
--- where what is told is broken off by want of memory alone, nothing else ends it
+-- where what is told is broken off by a lack of memory alone, nothing else ends it
 pub only_memory : {T C : Type 0} (Tells : T → C → Outcome → T → Type 0) → ((fault : ReportFault) (old new : T) (one : C) → Tells old one (Err fault) new → fault ≡ Memory) → (fault : ReportFault) (all : List C) (old new : T) → HeardPart Tells fault old all new → fault ≡ Memory
 only_memory Tells breaks fault [] old new (same, memory) = memory
 only_memory Tells breaks fault (one ∷ others) old new (inl (same, memory)) = memory

@@ -38,7 +38,7 @@ pub told_none : {A T C More : Type 0} (Tells : T → C → Outcome → T → Typ
 told_none {A} Tells scene (Err fault) lines player same = record { told = tell_on {A = A} Tells Memory (Err fault) lines player.teller player.teller same (heard_none Tells lines player.teller); at = tt; more = tt }
 told_none Tells scene (Ok value) lines player same = absurd same
 
--- a fault that is want of memory
+-- a fault that is a lack of memory
 pub memory_on : {A : Type 0} (fault : ReportFault) (result : Result A ReportFault) → IsErrAnd result (λ e. e ≡ fault) → fault ≡ Memory → IsErrAnd result (λ e. e ≡ Memory)
 memory_on fault (Err e) same memory = same ∙ memory
 memory_on fault (Ok value) same memory = absurd same

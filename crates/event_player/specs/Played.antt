@@ -1,5 +1,5 @@
 -- What a run that tells nobody leaves: the desks of a recording's switches (this proxy's own rule).
-use Rattle.std.specs.Prelude.{◌≡◌, ℕ, List, reverse, Ok}
+use Rattle.std.specs.Prelude.{◌≡◌, List, reverse, Ok}
 use Rattle.flowspace.specs.Policies.{PolicyView}
 use Rattle.recording.specs.Recordings.{Told}
 use Rattle.run_words.specs.Summaries.{event_count}

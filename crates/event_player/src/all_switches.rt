@@ -9,16 +9,9 @@ use crate::fault::ReportFault;
 use crate::player::Player;
 use crate::switch::Switch;
 use crate::teller::Teller;
+use desk_words::carried;
 use recording::{Item, SWITCHES};
 use std::alloc::{AllocError, Global};
-
-/// The bytes that a record of the file carries.
-fn carried<'a>(file: &'a [u8], item: &Item) -> &'a [u8]
-    ensures { result.now ≡ bytes_carried file.now item.now }
-{
-    let rest = file.get(item.from..).unwrap_or(&[]);
-    &rest[..item.size.min(rest.len())]
-}
 
 /// No switch is known yet.
 pub(crate) fn no_switches(alloc: Global) -> Result<Vec<Option<Switch>>, AllocError>

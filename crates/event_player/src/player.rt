@@ -1,6 +1,6 @@
 //! Who plays a recording.
 
-ghost use Rattle.std.specs.Prelude.{ℕ, ◌≡◌, ◌≤◌, ◌<◌, ◌+◌, ◌^◌, List, [], ◌∷◌, length, IfOk, IfSome, IfNone, IfErr, OnErr};
+ghost use Rattle.std.specs.Prelude.{ℕ, ◌≡◌, ◌≤◌, ◌<◌, ◌+◌, ◌^◌, List, [], ◌∷◌, length, IfOk, IfSome, IfNone, OnErr};
 ghost use Rattle.desk_words.specs.Recorded.{told_by};
 ghost use Rattle.event_player.specs.Lines.{saying_of};
 ghost use Rattle.of10_ctl.specs.Frames.{IsFrame};

@@ -2,6 +2,7 @@
 //! the row. An `assert_eq!` costs a test's proof a hundred times what the call of one of these functions costs.
 #![tactic(auto)]
 
+use std::alloc::{AllocError, Global};
 use std::fmt::Debug;
 use std::test::Fail;
 
@@ -24,6 +25,20 @@ pub fn expect_equal<T: PartialEq + Debug>(
         Ok(())
     } else {
         Err(Fail::new(format_args!("{row:?}: {found:?}, not {expected:?}")))
+    }
+}
+
+/// The text of an answer.
+pub fn told(alloc: Global, answer: &impl Debug) -> Result<String, AllocError> {
+    format!(in alloc; "{answer:?}")
+}
+
+/// What came of a row, which its place in the table names, is what is wanted.
+pub fn expect_told(row: u32, came: &str, wanted: &str) -> Result<(), Fail> {
+    if came == wanted {
+        Ok(())
+    } else {
+        Err(Fail::new(format_args!("row {row}: {came}, not {wanted}")))
     }
 }
 

@@ -119,7 +119,7 @@ impl FlowBook {
     }
 
     /// A flow-mod with this command and priority was sent on in these pieces by the request of the number,
-    /// and asks or not to be told of removals.
+    /// and asks or not to hear of removals.
     pub fn added(&mut self, command: u16, pieces: &[Match], priority: u16, asked: bool, number: u64)
         requires distinct { AllPairs (λ a b. a ≢ b) pieces.now }
         requires few { length pieces.now < 2 ^ 32 }

@@ -32,7 +32,7 @@ fn add_entry(alloc: Global, entries: &mut Vec<FlowEntry>, m: &FlowMod) -> Result
     }
 }
 
-/// So many copies of the actions. All are taken before an entry is changed, so that want of memory
+/// So many copies of the actions. All are taken before an entry is changed, so that a lack of memory
 /// changes none.
 fn copies(alloc: Global, actions: &Actions, count: usize) -> Result<Vec<Actions>, AllocError>
     ensures lists { IfOk result (λ lists. All (λ list. list ≡ actions.now) lists.items) }

@@ -27,7 +27,7 @@ use Rattle.flowmod_expand.proofs.Somewhere.{All-filter_map}
 use Rattle.flowmod_expand.proofs.Space.{Any-writes_of}
 
 -- the match of a message is its piece
-piece_is : (m : FlowMod) (xid : ℕ) (piece : Pattern) (actions : List Action) (buffer : ℕ) → (piece_message m xid piece actions buffer).pattern ≡ piece
+pub piece_is : (m : FlowMod) (xid : ℕ) (piece : Pattern) (actions : List Action) (buffer : ℕ) → (piece_message m xid piece actions buffer).pattern ≡ piece
 unfolding piece_message
 piece_is m xid piece actions buffer = refl
 

@@ -58,7 +58,7 @@ swapped_back (pair ∷ others) port apart = elim (cases_Bool (port == pair.0)) [
 abbrev ShareNone : Swap → Swap → Type 0
 ShareNone earlier later = share_number earlier later ≡ false
 
-either_false : (a b : Bool) → (a || b) ≡ false → (a ≡ false) × (b ≡ false)
+pub either_false : (a b : Bool) → (a || b) ≡ false → (a ≡ false) × (b ≡ false)
 either_false false b e = (refl, e)
 either_false true b e = absurd (true≢false e)
 

@@ -22,6 +22,7 @@ pub use fault::{Field, PolicyFault, What};
 pub use order::rules_stand_in_order;
 pub use owners::{is_in_port, takes_from};
 pub use policy::Policy;
+pub use refusal::have_switch;
 pub use rules::{Rule, first_improper, has_slot, is_vlan, is_written_by};
 pub use slices::{Slice, is_controller, is_name};
 pub use swaps::Swap;

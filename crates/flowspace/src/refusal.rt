@@ -13,7 +13,7 @@ fn is_usurped(earlier: Option<u8>, later: Option<u8>) -> bool
 }
 
 /// Whether what holds on the one switch and what holds on the other hold on a common one; none named is each.
-pub(crate) fn have_switch(a: Option<u64>, b: Option<u64>) -> bool
+pub fn have_switch(a: Option<u64>, b: Option<u64>) -> bool
     ensures { result ≡ have_switch a b }
 {
     a.is_none_or(|switch| b.is_none_or(|other| other == switch))

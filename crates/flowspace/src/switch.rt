@@ -1,6 +1,6 @@
 //! A policy as it holds on one switch.
 
-ghost use Rattle.std.specs.Prelude.{◌≡◌, ◌<◌, ◌↔◌, false, leb, nat_lt, length, map, filter, slice_get, All, Some, IfOk, IfSome, IfNone, IsTrue, option_map};
+ghost use Rattle.std.specs.Prelude.{◌≡◌, ◌<◌, ◌↔◌, false, nat_lt, length, map, filter, slice_get, All, Some, IfOk, IfSome, IfNone, IsTrue, option_map};
 ghost use Rattle.std.specs.List.{list_any};
 ghost use Rattle.flowspace.specs.Rules.{is_written_by};
 ghost use Rattle.flowspace.specs.Order.{first_of, first_rule, writer_of, readers_of};

@@ -1,4 +1,4 @@
-//! The outside in memory, which tells its contents.
+//! The outside in memory, which shows its contents.
 
 ghost use Rattle.std.specs.Prelude.{◌≡◌, ◌≤◌, ◌<◌, ◌+◌, ◌-◌, ◌^◌, min, ℕ, List, [], Some, None, length, drop, ◌||◌, ◌&&◌, is_ok, vec_len, vec_capacity, take, option_map, IsTrue, IsFalse, IfOk, IfSome, IsOkAnd, OnOk, OnErr};
 ghost use Rattle.std.specs.Result.{result_ok};
@@ -126,7 +126,7 @@ impl Sink for MemorySink {
     }
 }
 
-/// A sink that never fails. It keeps nothing but the number of bytes that it took, so it tells nothing.
+/// A sink that never fails. It keeps nothing but the number of bytes that it took, so it shows nothing.
 #[derive(Drop)]
 pub struct NeverSink {
     taken: u64,

@@ -9,7 +9,7 @@ use Rattle.of10_port.specs.Features.{spell_features, features_front}
 use Rattle.recording.specs.declared.item.Item.{Item}
 use Rattle.recording.specs.declared.layout.Layout.TheVariants.{Recording}
 use Rattle.recording.specs.Recordings.{Told, HasMoment, placed_record, all_told, may_be_told, has_form, fits, is_switch_open, is_slice_open, read_items, magic, record_bytes, head_spelling}
-use Rattle.recording.proofs.Told.{told_again}
+use Rattle.recording.proofs.Told.{told_again, spell_length}
 use Rattle.fv_generator.specs.Made.{by_switch, by_slice, features_message, opening, drawn_round, rounds, records_of, recording_of}
 use Rattle.fv_generator.proofs.Sizes.{features_size}
 use Rattle.fv_generator.proofs.Cases.{of_round}
@@ -68,14 +68,9 @@ moments seed count few =
 pub recording_is_read : (seed count : ℕ) → count ≤ 1000000 → read_items 2 (recording_of seed count) ≡ Ok (all_told 8 (records_of seed count))
 recording_is_read seed count few = told_again 2 (records_of seed count) (moments seed count few) (records_may seed count)
 
--- how many bytes a record takes
-spelled_size : (r : Told) → length (record_bytes r) ≡ 16 + length r.bytes
-unfolding head_spelling
-spelled_size r = omega arith
-
 round_size : (number state : ℕ) → length (record_bytes (drawn_round number state).0) ≤ 96
 round_size number state =
-    of_round (λ r. length (record_bytes r) ≤ 96) number (λ message few. rw (spelled_size (by_switch number message)) (omega (arith, few))) (λ slot message known few. rw (spelled_size (by_slice number slot message)) (omega (arith, few))) state
+    of_round (λ r. length (record_bytes r) ≤ 96) number (λ message few. rw (spell_length (by_switch number message)) (omega (arith, few))) (λ slot message known few. rw (spell_length (by_slice number slot message)) (omega (arith, few))) state
 
 rounds_size : (n number state : ℕ) → length (flat_map record_bytes (rounds n number state)) ≤ 96 * n
 unfolding rounds

@@ -11,9 +11,9 @@ use recording::{SLICE_UP, SWITCH_BYTES, SWITCH_UP, add_item};
 use std::alloc::{AllocError, Global};
 
 /// The transaction id under which the proxy asks a switch for its features.
-const ASKED: u32 = 0xff00_0001;
+const FEATURES_XID: u32 = 0xff00_0001;
 
-/// What the switch tells of itself: four ports, one of them its own.
+/// What the switch reports of itself: four ports, one of them its own.
 #[tactic(auto, unfolding(crate::specs::Made::features_message))]
 fn features(alloc: Global) -> Result<Frame, AllocError>
     ensures { IfOk result (λ f. f ≡ features_message) }
@@ -32,7 +32,7 @@ fn features(alloc: Global) -> Result<Frame, AllocError>
         actions: 0xfff,
         ports: Ports::of(alloc, &ports)?,
     };
-    features.encode(alloc, ASKED)
+    features.encode(alloc, FEATURES_XID)
 }
 
 /// Appends the records with which every made recording begins: the switch and both slices come.

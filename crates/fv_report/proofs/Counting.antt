@@ -234,7 +234,7 @@ pub told_as : (outcome : Outcome) (saying : Saying) (old new : Counter) → OnOk
 told_as (Ok value) saying old new holds memory = holds
 told_as (Err fault) saying old new holds memory = memory
 
--- nothing but want of memory ends what is counted
+-- nothing but a lack of memory ends what is counted
 pub nothing_counted : {A : Type 0} (fault : ReportFault) (result : Result A ReportFault) (n : ℕ) → IsErrAnd result (λ e. e ≡ fault) → fault ≡ Memory → Counted result n n
 nothing_counted fault (Err e) n same memory = subst (λ (f : ReportFault). CountedFault f n n) (sym (same ∙ memory)) refl
 nothing_counted fault (Ok value) n same memory = absurd same

@@ -17,6 +17,7 @@ use Rattle.of10_flow.specs.declared.packet_out.PacketOut.{PacketOut}
 use Rattle.frame_header.specs.Links.{link_of}
 use Rattle.frame_header.specs.Headers.{header_of_packet}
 use Rattle.frame_header.specs.Probes.{IsProbe}
+use Rattle.frame_header.specs.declared.probe.TheConstants.{LLDP}
 use Rattle.flowspace.specs.declared.slices.Slice.{Slice}
 use Rattle.flowspace.specs.declared.rules.Rule.{Rule}
 use Rattle.flowspace.specs.Rules.{IsInPort, IsPlainRule}
@@ -224,13 +225,13 @@ out_lies IsHeaderUnder ss rules policy came g slot m on_slot on_patterns all = r
 -- ---- ports
 
 -- no bytes are no probe
-pub not_lldp : (in_port : ℕ) → ((header_of_packet in_port []).dl_type == 0x88cc) ≡ false
+pub not_lldp : (in_port : ℕ) → ((header_of_packet in_port []).dl_type == LLDP) ≡ false
 unfolding header_of_packet link_of
 not_lldp in_port = refl
 
 held_no_probe : (came : List ℕ) (g : Ground) (m : PacketOut) (packet : HeldPacket) → is_probe (sent_held came g m packet) ≡ true → ⊥
 held_no_probe came g m packet is =
-    true≢false (sym (and_parts (number_it_came_with came packet.ordinal == NO_BUFFER) ((header_of_packet packet.header.in_port []).dl_type == 0x88cc) is).1 ∙ not_lldp packet.header.in_port)
+    true≢false (sym (and_parts (number_it_came_with came packet.ordinal == NO_BUFFER) ((header_of_packet packet.header.in_port []).dl_type == LLDP) is).1 ∙ not_lldp packet.header.in_port)
 
 -- what it carries is no probe if the slice's message wasn't
 pub same_probe : (g : Ground) (m : PacketOut) → m.buffer ≡ NO_BUFFER → is_probe (sent_carried g m) ≡ is_probe m

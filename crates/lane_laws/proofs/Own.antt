@@ -1,20 +1,20 @@
 -- The flow-mods that are sent for the pieces of a match lie in what the slice writes, and send to its ports.
-use Rattle.std.proofs.Common.{◌≡◌, refl, subst, arith, ℕ, suc, ◌<◌, length, get_or, Option, ◌+◌, inl, inr, Bool, true, false, List, [], ◌∷◌, map, filter, All, Result, Ok, Err}
-use Rattle.std.proofs.lemmas.List.Elements.{All-nil, All-cons, All-map, All-filter, All-weaker, filter_passes}
+use Rattle.std.proofs.Common.{◌≡◌, refl, subst, arith, ℕ, suc, ◌<◌, length, get_or, Option, ◌+◌, inl, inr, true, false, List, [], ◌∷◌, map, All, Result, Ok, Err}
+use Rattle.std.proofs.lemmas.List.Elements.{All-nil, All-cons, All-weaker}
 use Rattle.of10_model.specs.declared.pattern.Pattern.{Pattern}
 use Rattle.of10_model.specs.Header.{Header}
 use Rattle.of10_model.proofs.Results.{either}
 use Rattle.of10_action.specs.declared.action.Action.{Action}
 use Rattle.of10_action.specs.declared.action.Action.TheVariants.{Output, SetVlanVid, SetVlanPcp, StripVlan, SetDlSrc, SetDlDst, SetNwSrc, SetNwDst, SetNwTos, SetTpSrc, SetTpDst, Enqueue}
 use Rattle.of10_action.specs.Reading.{list_given}
-use Rattle.of10_port.specs.Ports.{port_number}
 use Rattle.of10_flow.specs.declared.flow_mod.FlowMod.{FlowMod}
 use Rattle.flowspace.specs.declared.slices.Slice.{Slice}
 use Rattle.flowspace.specs.declared.rules.Rule.{Rule}
 use Rattle.flowspace.specs.Policies.{IsSwitchPolicy}
-use Rattle.flowspace.specs.Owners.{Owns, HasPort, has_port}
-use Rattle.flowspace.proofs.Owning.{Writes-iff, has_port-iff}
-use Rattle.port_view.specs.SlicePorts.{ports_of_slice, is_flooded, flooded}
+use Rattle.flowspace.specs.Owners.{Owns, HasPort}
+use Rattle.flowspace.proofs.Owning.{Writes-iff}
+use Rattle.port_view.specs.SlicePorts.{ports_of_slice, flooded}
+use Rattle.port_view.proofs.Flooding.{flooded_own}
 use Rattle.flowmod_expand.specs.Pieces.{writes_of}
 use Rattle.flowmod_expand.specs.Messages.{buffer_at, piece_message, piece_messages}
 use Rattle.action_check.specs.declared.origin.Origin.{Origin}
@@ -51,15 +51,6 @@ sent_within ss rs policy slot m xid piece actions buffer owns h range has =
     (Writes-iff ss rs policy slot h range).1 (owns.0, owns.1, owns.2, owns.3, (owns.4.0, owns.4.1 h range has))
 
 -- ---- ports
-
--- a flood goes to ports of the slice
-pub flooded_own : (rs : List Rule) (slot : ℕ) (all : Bool) (known : List (List ℕ)) → All (HasPort rs slot) (flooded all (ports_of_slice rs slot known))
-flooded_own rs slot all known =
-    let own = λ (port : List ℕ). has_port rs slot (port_number port) in
-    let OwnsPort = λ (port : List ℕ). HasPort rs slot (port_number port) in
-    All-map (HasPort rs slot) port_number (filter (is_flooded all) (ports_of_slice rs slot known))
-    (All-filter (is_flooded all) OwnsPort (ports_of_slice rs slot known)
-    (All-weaker (λ port. own port ≡ true) OwnsPort (λ port is. (has_port-iff rs slot (port_number port)).0 is) (ports_of_slice rs slot known) (filter_passes own known)))
 
 -- where an action of a piece may send, it names a port of the slice, IN_PORT or CONTROLLER
 pub named : (rs : List Rule) (slot : ℕ) (piece : Pattern) (action : Action) → HasWay rs slot (Piece piece) action → NamesOwnPort rs slot action

@@ -19,6 +19,7 @@ use Rattle.of10_flow.specs.FlowMods.{IsRanged, spell_flow_mod}
 use Rattle.of10_flow.specs.PacketOuts.{IsRangedOut, spell_packet_out}
 use Rattle.of10_flow.specs.Tables.{is_delete}
 use Rattle.frame_header.specs.Headers.{header_of_packet}
+use Rattle.frame_header.specs.declared.probe.TheConstants.{LLDP}
 use Rattle.flowspace.specs.declared.slices.Slice.{Slice}
 use Rattle.flowspace.specs.declared.rules.Rule.{Rule}
 use Rattle.flowspace.specs.Policies.{PolicyView, SwitchView, IsSwitchPolicy, AreNormal}
@@ -245,15 +246,15 @@ module _ (rules : List Rule) (slot : ℕ) (known : List (List ℕ)) (state : Sli
       })
 
   -- what it carries is no probe if the slice's message wasn't
-  same_probe_from : (m : PacketOut) → m.buffer ≡ NO_BUFFER → (number m == NO_BUFFER && (carried_header m).dl_type == 0x88cc) ≡ is_probe m
-  same_probe_from m is = ap (λ (n : ℕ). n == NO_BUFFER && (carried_header m).dl_type == 0x88cc) (no_number m is ∙ sym is)
+  same_probe_from : (m : PacketOut) → m.buffer ≡ NO_BUFFER → (number m == NO_BUFFER && (carried_header m).dl_type == LLDP) ≡ is_probe m
+  same_probe_from m is = ap (λ (n : ℕ). n == NO_BUFFER && (carried_header m).dl_type == LLDP) (no_number m is ∙ sym is)
 
   out_outputs_from : (m : PacketOut) → packet_out_fault ground m ≡ None → SendsToOwnPorts rules slot (packet_out_from state ground m)
   out_outputs_from m none =
       out_from (SendsToOwnPorts rules slot) m none (record {
         held = λ packet is. (
           All-weaker (HasWay rules slot (origins.Packet packet.header)) (SendsToOwnPort rules slot) (named_out rules slot packet.header) (list_for ground m (origins.Packet packet.header)) (ways_from m (origins.Packet packet.header)),
-          λ probe. absurd (true≢false (sym (and_parts (number m == NO_BUFFER) ((header_of_packet packet.header.in_port []).dl_type == 0x88cc) probe).1 ∙ not_lldp packet.header.in_port)),
+          λ probe. absurd (true≢false (sym (and_parts (number m == NO_BUFFER) ((header_of_packet packet.header.in_port []).dl_type == LLDP) probe).1 ∙ not_lldp packet.header.in_port)),
         );
         probe = λ comes is.
             let way = ways_from m (origins.Probe m.in_port) in (

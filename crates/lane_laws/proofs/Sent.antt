@@ -42,6 +42,7 @@ use Rattle.port_view.specs.SlicePorts.{ports_of_slice, flooded}
 use Rattle.flowmod_expand.specs.Pieces.{pieces_within, writes_of, pieces_of}
 use Rattle.flowmod_expand.specs.Messages.{buffer_at, piece_message}
 use Rattle.flowmod_expand.proofs.Space.{Owns-pieces_of}
+use Rattle.flowmod_expand.proofs.Outsiders.{piece_is}
 use Rattle.action_check.specs.declared.origin.Origin.{Origin}
 use Rattle.action_check.specs.declared.origin.Origin.TheVariants.{Piece}
 use Rattle.action_check.specs.Permitted.{permitted}
@@ -542,10 +543,6 @@ own_buffer policy slot h features number packet is kept = record {
   written = subst (λ (found : Option Features). Writes (rules_of policy found) slot (header_in kept.arrival.packet)) (sym is) kept.written;
 }
 
-pattern_sent : (m : FlowMod) (xid : ℕ) (piece : Pattern) (actions : List Action) (buffer : ℕ) → (piece_message m xid piece actions buffer).pattern ≡ piece
-unfolding piece_message
-pattern_sent m xid piece actions buffer = refl
-
 buffer_sent : (m : FlowMod) (xid : ℕ) (piece : Pattern) (actions : List Action) (buffer : ℕ) → ((piece_message m xid piece actions buffer).buffer ≡ NO_BUFFER) ⊎ ((piece_message m xid piece actions buffer).buffer ≡ buffer)
 unfolding piece_message
 buffer_sent m xid piece actions buffer = either (λ n. (n ≡ NO_BUFFER) ⊎ (n ≡ buffer)) (is_delete m) NO_BUFFER buffer (inl refl) (inr refl)
@@ -584,7 +581,7 @@ module _ (policy : PolicyView) (slot : ℕ) (h : List Timed) (features : Feature
             elim carrying [
               | inl none ↦ inl (same ∙ none)
               | inr (packet, named, number, has_header) ↦
-                  carried_sent sent piece buffer packet (pattern_sent m ground.xid piece (list ground m piece) buffer) same number has_header (packet_named m (is_delete m) packet named)
+                  carried_sent sent piece buffer packet (piece_is m ground.xid piece (list ground m piece) buffer) same number has_header (packet_named m (is_delete m) packet named)
             ]
       ])
 

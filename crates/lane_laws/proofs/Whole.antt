@@ -56,6 +56,7 @@ use Rattle.lane_laws.proofs.Asked.{read_as_question}
 use Rattle.lane_laws.proofs.Outs.{list_for, sent_held, sent_probe, sent_carried, out_with, out_holds, packet_holds}
 use Rattle.lane_laws.proofs.Ranged.{normal_on, found_under, each_ranged}
 use Rattle.lane_laws.proofs.Sent.{kept_all, slot_is, patterns_are, ground_by, flow_mods_by, packet_out_by, list, each_on, lists_hold, actions_hold, out_lies_on, out_outputs_on, leaves}
+use Rattle.frame_header.specs.declared.probe.TheConstants.{LLDP}
 
 -- ---- ranges
 
@@ -179,7 +180,7 @@ module _ (policy : PolicyView) (accepted : IsPolicy policy.slices policy.rules) 
   probe_whole : (m : PacketOut) → IsReadOut m → is_probe m ≡ true → Whole m (sent_probe ground m)
   probe_whole m read probe = (
     below,
-    λ plain header range sends. absurd (true≢false (sym (eq-eqb (carried_header (sent_probe ground m)).dl_type 0x88cc ((IsProbe-marked ground.slot m probe).lldp m.in_port)) ∙ plain)),
+    λ plain header range sends. absurd (true≢false (sym (eq-eqb (carried_header (sent_probe ground m)).dl_type LLDP ((IsProbe-marked ground.slot m probe).lldp m.in_port)) ∙ plain)),
   )
 
   carried_whole : (m : PacketOut) → IsReadOut m → Whole m (sent_carried ground m)

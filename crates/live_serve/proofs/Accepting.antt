@@ -1,6 +1,6 @@
 -- Connections that are accepted one after another, and the groups of works that are started for them.
 use Rattle.std.proofs.Common.{◌≡◌, ◌≤◌, ◌<◌, ℕ, zero, suc, ◌+◌, List, ◌++◌, refl, sym, ap, subst, ◌∙◌, append_assoc, append-nil, add-one, arith, inl, inr, ◌⊎◌}
-use Rattle.std.specs.Prelude.{Option, Some, None}
+use Rattle.std.specs.Prelude.{Option}
 use Rattle.fv_live.specs.Live.{count_more}
 use Rattle.fv_live.specs.Roles.{Role, started}
 use Rattle.live_serve.specs.Roles.{group, groups, AreFirstRoles, Partly}
@@ -10,14 +10,7 @@ use Rattle.live_serve.specs.declared.group.StartFault.TheVariants.{Start, Memory
 use Rattle.live_serve.specs.declared.accept.RunEnd.{RunEnd}
 use Rattle.live_serve.specs.Running.{ServeOutside, Opened, SomeGroups, AllServed, EndsBy, IsRunCause}
 use Rattle.live_serve.proofs.Starting.{started_none, started_more, partly_more}
-
-pub counted_none : (told : Option ℕ) → told ≡ count_more told 0
-counted_none None = refl
-counted_none (Some n) = ap Some (let e : n ≡ n + 0 = omega arith in e)
-
-pub counted_more : (told : Option ℕ) (n : ℕ) → count_more (count_more told n) 1 ≡ count_more told (n + 1)
-counted_more None n = refl
-counted_more (Some k) n = ap Some (let e : (k + n) + 1 ≡ k + (n + 1) = omega arith in e)
+use Rattle.live_session.proofs.Linking.{counted_none, counted_more}
 
 -- the next group comes behind the groups before it
 groups_next : (n : ℕ) (addresses : List (List ℕ)) → groups (suc n) addresses ≡ groups n addresses ++ group addresses

@@ -40,9 +40,9 @@ still_early slot v w u left m n answer h k is = (
   early_more h.0 (record { op = Take (Slice slot); reply = Took answer }) h.2 (ap Took is),
 )
 
-twice : (told : Option ℕ) (n : ℕ) → count_more (count_more told n) 1 ≡ count_more told (n + 1)
-twice None n = refl
-twice (Some k) n = let e : (k + n) + 1 ≡ k + (n + 1) = omega arith in ap Some e
+pub counted_more : (told : Option ℕ) (n : ℕ) → count_more (count_more told n) 1 ≡ count_more told (n + 1)
+counted_more None n = refl
+counted_more (Some k) n = let e : (k + n) + 1 ≡ k + (n + 1) = omega arith in ap Some e
 
 pub counted_none : (told : Option ℕ) → told ≡ count_more told 0
 counted_none None = refl
@@ -59,7 +59,7 @@ pub none_yet : (told : Option ℕ) → SoFar told false [] told
 none_yet told = (counted_none told, refl)
 
 pub link_more : (before mid after : Option ℕ) (asked : Bool) (end : ReaderEnd) (ways : List Way) → SoFar before asked ways mid → after ≡ count_more mid 1 → SoFar before asked (OfLink end ∷ ways) after
-link_more before mid after asked end ways h k = (k ∙ (ap (λ t. count_more t 1) h.0 ∙ twice before (links_in ways)), h.1)
+link_more before mid after asked end ways h k = (k ∙ (ap (λ t. count_more t 1) h.0 ∙ counted_more before (links_in ways)), h.1)
 
 pub ask_more : (before mid : Option ℕ) (asked : Bool) (end : ReaderEnd) (ways : List Way) → asked ≡ false → SoFar before asked ways mid → SoFar before true (Without end ∷ ways) mid
 ask_more before mid asked end ways is h =

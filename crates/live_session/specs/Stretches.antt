@@ -94,7 +94,7 @@ ButLast holds calls = (before : List DeskCall) × (last : DeskCall) × (calls �
 abbrev pub StoppedBy : DeskReply → List DeskCall → Type 0
 StoppedBy reply calls = (before : List DeskCall) × (op : DeskOp) × (calls ≡ before ++ record { op = op; reply = reply } ∷ []) × WentOn before
 
--- the answer was want of memory
+-- the answer was out of memory
 abbrev pub IsWant : DeskReply → Type 0
 IsWant (Stepped (Ok answer)) = ⊥
 IsWant (Stepped (Err fault)) = Unit {0}

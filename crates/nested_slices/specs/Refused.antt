@@ -66,7 +66,7 @@ flatten_of outer slot inner = elim (early_fault outer slot inner) [
   | Some fault ↦ Err fault
 ]
 
--- a call answers what it should, or want of memory
+-- a call answers what it should, or out of memory
 abbrev pub GivesFlat : {A : Type 0} → Result A NestFault → Result A NestFault → Type 0
 GivesFlat called said = Answers (λ fault told. (fault ≡ Memory) ⊎ (told ≡ Err fault)) (λ x. x) called said
 

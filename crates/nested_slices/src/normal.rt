@@ -5,7 +5,7 @@ ghost use Rattle.flowspace.specs.Policies.{AreNormal};
 
 use flowspace::Rule;
 
-// Reading a match tells that it is normal.
+// A match that is read is normal.
 fn see_normal(rule: &Rule)
     ensures { IsNormal rule.now.pattern }
 {

@@ -184,7 +184,7 @@ impl Match {
         self.pattern.is_exact()
     }
 
-    /// Whether the other is the same match. It is told as by `==`, but the fields in which matches of one
+    /// Whether the other is the same match. It is decided as by `==`, but the fields in which matches of one
     /// slice differ most often are looked at first.
     pub fn is_same(&self, other: &Match) -> bool
         ensures { result ≡ is_same self.now other.now }

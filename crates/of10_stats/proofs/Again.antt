@@ -15,7 +15,7 @@ use Rattle.of10_stats.specs.Requests.{IsRequest, statistics_kind, request_body, 
 use Rattle.of10_stats.proofs.Written.{length-request_body}
 
 -- no body has more than 44 bytes
-small_body : (r : StatsRequest) → body_size (statistics_kind r) ≤ 44
+pub small_body : (r : StatsRequest) → body_size (statistics_kind r) ≤ 44
 small_body Desc = omega arith
 small_body (Flow pattern table out_port) = omega arith
 small_body (Aggregate pattern table out_port) = omega arith

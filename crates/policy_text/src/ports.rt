@@ -11,11 +11,9 @@ use crate::names::{Names, port_slot};
 use crate::section::Section;
 use crate::values::{Numbers, Numerals, Texts};
 use flowspace::Swap;
+use of10_port::protocol::MAX;
 use std::alloc::Global;
 use toml::Value;
-
-/// The greatest number of a physical port (OpenFlow 1.0.0, section 5.2.1).
-const GREATEST_PORT: u32 = 0xff00;
 
 /// What a port table says, its slice by name.
 #[derive(Drop)]
@@ -33,8 +31,8 @@ fn port_text_in<'a>(table: &Section<'a>) -> Result<PortText<'a>, ReadFault>
     table.known_keys(Keys::Port)?;
     let slice = table.required_text(Texts::Any, "slice")?;
     let switch = table.numeral(Numerals::Datapath, "switch")?;
-    let shown = table.required_number16(Numbers::UpTo(GREATEST_PORT), "shown")?;
-    let physical = table.required_number16(Numbers::UpTo(GREATEST_PORT), "physical")?;
+    let shown = table.required_number16(Numbers::UpTo(u32::from(MAX)), "shown")?;
+    let physical = table.required_number16(Numbers::UpTo(u32::from(MAX)), "physical")?;
     Ok(PortText {
         slice,
         switch,

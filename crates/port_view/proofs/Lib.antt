@@ -5,3 +5,4 @@ pub mod Knowing
 pub mod Telling
 pub mod Following
 pub mod Bits
+pub mod Flooding

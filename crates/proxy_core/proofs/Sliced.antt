@@ -44,7 +44,7 @@ use Rattle.proxy_core.proofs.Acting.{body_after, is_opened, session_passes, lane
 pub stands_in : (p : PolicyView) (switch : KnownSwitch) (sides : ℕ → SliceSide) (qs : ℕ → Queue) (session : Session) (o : Option Session) → o ≡ Some session → Opens p switch sides qs o → SessionStands p switch sides qs session
 stands_in p switch sides qs session o is opens = subst (λ (k : Option Session). Opens p switch sides qs k) is opens
 
--- want of memory changes nothing
+-- a lack of memory changes nothing
 pub stays_on : (old new : Desk) (a b : Session) → old.session ≡ Some a → new.policy ≡ old.policy → new.phase ≡ old.phase → SameQueue old.lane new.lane → new.session ≡ Some b → StandsOn a b → Stays old new
 stays_on old new a b was policy phase lane now on p switch sides qs ql body = record {
   same_policy = policy ∙ body.same_policy;

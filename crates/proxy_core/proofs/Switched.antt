@@ -224,7 +224,7 @@ carried_session p switch sides qs moment message old new rooms s open_ policy fe
           (slot_sent p switch sides (told_at moment message) 0 slot p.slices (omega arith) (let less = ltb-true slot (length p.slices) here in omega arith)) (handed.each slot mid.0 y mid.1 gy slice_limit (qs slot) roomy);
     })
 
--- want of memory after room was made for some messages and changes
+-- out of memory after room was made for some messages and changes
 pub kept_queues : (old new : Session) → new.policy ≡ old.policy → new.features ≡ old.features → StandOn old.states.items new.states.items → new.ports ≡ old.ports → AreSame old.queues.items new.queues.items → StandsOn old new
 kept_queues old new policy features states ports same p switch sides qs s =
     session_becomes p switch switch sides sides qs qs old new s refl policy features (ports ∙ s.known) states.count same.count

@@ -11,7 +11,7 @@ use Rattle.recording.specs.declared.layout.Layout.TheVariants.{Recording, Trace}
 use Rattle.recording.specs.declared.fault.RecordingFault.{RecordingFault}
 use Rattle.recording.specs.declared.fault.RecordingFault.TheVariants.{Torn, Bad, NotOpen, Memory}
 
--- a call fails as a reading does, or for want of memory
+-- a call fails as a reading does, or for lack of memory
 abbrev pub FailsAsRecording : {X : Type 0} → RecordingFault → Result X RecordingFault → Type 0
 FailsAsRecording Memory read = Unit {0}
 FailsAsRecording (Torn at) read = read ≡ Err (Torn at)

@@ -13,26 +13,42 @@ use std::sync::Arc;
 use std::sync::atomic::{AtomicU64, Ordering};
 use std::thread::{self, JoinHandle};
 
+/// What a call is made with beside its spawner, and what it puts.
+#[derive(Drop)]
+pub struct Call<N, G> {
+    /// The words that it is given.
+    pub words: Words,
+    /// The files that it reads.
+    pub files: MemoryFiles,
+    /// Its connections.
+    pub wires: N,
+    /// What holds messages back.
+    pub gate: G,
+    /// The stream for errors.
+    pub err: MemorySink,
+}
+
 /// What the call answers, with files and a stream for errors in memory and a clock that stands.
 pub fn status<
     R: Host + Net<Listener = TcpListener, Stream = TcpStream>,
     N: Wires,
     G: Gate + Clone,
     P: Spawner<SessionWork<N, Still, G>>,
->(
-    rt: &R,
-    alloc: Global,
-    words: &Words,
-    files: &mut MemoryFiles,
-    wires: &mut N,
-    gate: &G,
-    spawner: &mut P,
-    err: &mut MemorySink,
-) -> u8
-    requires silent { N.listens wires.old ≡ false }
+>(rt: &R, alloc: Global, call: &mut Call<N, G>, spawner: &mut P) -> u8
+    requires silent { N.listens call.old.wires ≡ false }
     requires can { P.can_start spawner.old }
 {
-    serve(rt, alloc, words, files, wires, &Still, gate, spawner, err)
+    serve(
+        rt,
+        alloc,
+        &call.words,
+        &mut call.files,
+        &mut call.wires,
+        &Still,
+        &call.gate,
+        spawner,
+        &mut call.err,
+    )
 }
 
 /// The thread that runs the work, and then counts it.

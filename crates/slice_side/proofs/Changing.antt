@@ -9,14 +9,14 @@ use Rattle.flow_book.specs.declared.state.SliceState.{SliceState}
 use Rattle.slice_words.specs.Messages.{Reading, ends_connection, is_dismissing, length_wanted, length_set, asks_switch, is_question, kind_asked, asked_of}
 use Rattle.slice_words.specs.Items.{Settings, message_read, Sight, Item, Msg, is_up, latest_moment}
 use Rattle.buffer_map.specs.declared.held.Held.{Held}
-use Rattle.slice_words.specs.Pasts.{Outgoing, Answer, Past, view_in, is_any, no_answer}
+use Rattle.slice_words.specs.Pasts.{Outgoing, Answer, Past, is_any, no_answer}
 use Rattle.slice_words.specs.Buffers.{HeldPacket, is_named, held_packets}
 use Rattle.slice_words.specs.Calls.{request_calls, collection_calls, questions, bookings, book_calls}
 use Rattle.slice_words.specs.Statistics.{begun}
 use Rattle.slice_words.specs.Answers.{answer, message_answer}
-use Rattle.slice_words.specs.Alone.{Answering, played, answer_to}
+use Rattle.slice_words.specs.Alone.{answer_to}
 use Rattle.slice_words.specs.Standing.{SliceStands, past_of, held_as}
-use Rattle.slice_words.proofs.Holding.{filter_of_map, filter_same, filter_all}
+use Rattle.slice_words.proofs.Holding.{filter_of_map, filter_same, filter_all, view_in-played}
 use Rattle.slice_words.proofs.AnswerKinds.{message_holds}
 use Rattle.slice_words.proofs.ReadAlike.{read_ends, read_wants, read_asks}
 use Rattle.of10_flow.specs.declared.flow_mod.FlowMod.{FlowMod}
@@ -106,10 +106,6 @@ pub sends_nothing : (s : Settings) (view : List Item) (moment : ℕ) (message : 
 sends_nothing s view moment message none = ap is_any (by_up (is_up view) _ (unasked s view (past_of s view) moment message none))
 
 -- ---- the calls
-
-pub view_in-played : (answering : Answering) (view : List Item) → view_in (played answering view) ≡ view
-view_in-played answering [] = refl
-view_in-played answering (item ∷ view) = ap (λ (items : List Item). item ∷ items) (view_in-played answering view)
 
 -- what a message does: it ends its connection, asks the rate, has something sent on, and sets a length
 pub record Does (s : Settings) (view : List Item) (message : List ℕ) (moment : ℕ) (ends asks sends : Bool) (set : Option ℕ) : Type 0 where

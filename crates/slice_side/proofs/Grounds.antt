@@ -1,9 +1,9 @@
 -- What flow-mods and packet-outs are answered by is what the rules, the ports and the state say.
-use Rattle.std.proofs.Common.{◌≡◌, ℕ, ◌==◌, ◌||◌, nat_lt, option_map, Bool, true, false, true≢false, if◌then◌else◌, List, [], ◌∷◌, ◌++◌, refl, sym, ap, ap₂, ◌∙◌, subst, inl, inr, Option, Some, None, Result, Ok, Err}
+use Rattle.std.proofs.Common.{◌≡◌, ℕ, ◌==◌, ◌||◌, nat_lt, option_map, Bool, true, false, true≢false, if◌then◌else◌, List, [], ◌∷◌, ◌++◌, refl, sym, ap, ap₂, ◌∙◌, subst, Option, Some, None, Result, Ok, Err}
 use Rattle.std.specs.List.{All, list_any}
-use Rattle.std.proofs.lemmas.Bool.{cases_Bool, or_left, or_right}
+use Rattle.std.proofs.lemmas.Bool.{or_left, or_right}
 use Rattle.std.proofs.lemmas.List.Concat.{flat_map-cons}
-use Rattle.std.proofs.lemmas.List.Elements.{All-nil, All-cons}
+use Rattle.std.proofs.lemmas.List.Elements.{All-nil}
 use Rattle.of10_action.specs.declared.action.Action.{Action}
 use Rattle.of10_action.specs.declared.action.Action.TheVariants.{Output}
 use Rattle.of10_action.specs.Reading.{list_given}
@@ -11,15 +11,14 @@ use Rattle.of10_flow.specs.declared.flow_mod.FlowMod.{FlowMod}
 use Rattle.of10_flow.specs.declared.packet_out.PacketOut.{PacketOut}
 use Rattle.of10_port.specs.declared.features.Features.{Features}
 use Rattle.of10_port.specs.declared.protocol.TheConstants.{FLOOD, ALL}
-use Rattle.of10_port.specs.Ports.{port_number}
 use Rattle.action_check.specs.declared.origin.Origin.{Origin}
 use Rattle.action_check.specs.Permitted.{first_code, outputs, spread, expanded, permitted}
 use Rattle.flowspace.specs.declared.rules.Rule.{Rule}
-use Rattle.flowspace.specs.Owners.{has_port, HasPort}
+use Rattle.flowspace.specs.Owners.{HasPort}
 use Rattle.flowspace.specs.Policies.{SwitchView}
-use Rattle.flowspace.proofs.Owning.{has_port-iff}
 use Rattle.flowmod_expand.specs.Pieces.{writes_of}
-use Rattle.port_view.specs.SlicePorts.{ports_of_slice, is_flooded, flooded}
+use Rattle.port_view.specs.SlicePorts.{ports_of_slice, flooded}
+use Rattle.port_view.proofs.Flooding.{flooded_own}
 use Rattle.flow_book.specs.declared.booked.Booked.{Booked}
 use Rattle.flow_book.specs.declared.state.SliceState.{SliceState}
 use Rattle.flow_book.specs.Books.{HaveSame}
@@ -128,17 +127,6 @@ permitted_same rules slot known origin actions flood all floods alls =
     ap₂ (λ (f a : List ℕ). permitted rules slot origin actions f a) floods alls
     ∙ permitted_named rules slot origin actions (flooded false (ports_of_slice rules slot known)) (flooded true (ports_of_slice rules slot known))
     ∙ sym (same_permitted slot rules origin actions (flooded false (ports_of_slice rules slot known)) (flooded true (ports_of_slice rules slot known)))
-
--- FLOOD and ALL stand for ports of the slice alone
-flooded_own : (rules : List Rule) (slot : ℕ) (every : Bool) (known : List (List ℕ)) → All (HasPort rules slot) (flooded every (ports_of_slice rules slot known))
-flooded_own rules slot every [] = All-nil (HasPort rules slot)
-flooded_own rules slot every (port ∷ known) = elim (cases_Bool (has_port rules slot (port_number port))) [
-  | inl own ↦ elim (cases_Bool (is_flooded every port)) [
-    | inl out ↦ rw (own, out) (All-cons (HasPort rules slot) (port_number port) (flooded every (ports_of_slice rules slot known)) ((has_port-iff rules slot (port_number port)).0 own) (flooded_own rules slot every known))
-    | inr kept ↦ rw (own, kept) (flooded_own rules slot every known)
-  ]
-  | inr other ↦ rw other (flooded_own rules slot every known)
-]
 
 named_own : (rules : List Rule) (slot : ℕ) (named : Bool) (ports : List ℕ) → All (HasPort rules slot) ports → All (HasPort rules slot) (if named then ports else [])
 named_own rules slot true ports own = own

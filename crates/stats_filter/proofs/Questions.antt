@@ -4,9 +4,9 @@ use Rattle.of10_ctl.specs.declared.kind.TheConstants.{STATS_REQUEST}
 use Rattle.of10_ctl.specs.Kinds.{IsOf}
 use Rattle.of10_stats.specs.declared.request.StatsRequest.{StatsRequest}
 use Rattle.of10_stats.specs.declared.request.StatsRequest.TheVariants.{Desc, Flow, Aggregate, Table, Port, Queue}
-use Rattle.of10_stats.specs.Requests.{IsRequest, body_size, statistics_kind, spell_request, read_request}
+use Rattle.of10_stats.specs.Requests.{IsRequest, spell_request, read_request}
 use Rattle.of10_stats.proofs.Written.{length-request_body}
-use Rattle.of10_stats.proofs.Again.{IsOf-request, request_again}
+use Rattle.of10_stats.proofs.Again.{IsOf-request, request_again, small_body}
 use Rattle.stats_filter.specs.Asking.{asked_as, question_for}
 
 asked_in_range : (request sent : StatsRequest) → IsRequest request → asked_as request ≡ Some sent → IsRequest sent
@@ -29,17 +29,9 @@ question_again request sent xid message is sends asks =
     let spelled = question_is request sent xid message sends asks in
     (subst (IsOf STATS_REQUEST) (sym spelled) (IsOf-request sent xid), ap read_request spelled ∙ request_again sent xid (asked_in_range request sent is sends))
 
-short_body : (r : StatsRequest) → body_size (statistics_kind r) ≤ 44
-short_body Desc = omega arith
-short_body (Flow pattern table out_port) = omega arith
-short_body (Aggregate pattern table out_port) = omega arith
-short_body Table = omega arith
-short_body (Port port) = omega arith
-short_body (Queue port queue) = omega arith
-
 short_request : (r : StatsRequest) (xid : ℕ) → length (spell_request r xid) ≤ 56
 unfolding spell_request
-short_request r xid = let long = length-request_body r in let short = short_body r in omega arith
+short_request r xid = let long = length-request_body r in let short = small_body r in omega arith
 
 -- the question has at most 56 bytes
 pub short_question : (request : StatsRequest) (xid : ℕ) (message : List ℕ) → question_for request xid ≡ Some message → length message ≤ 56

@@ -21,6 +21,7 @@ use Rattle.slice_words.proofs.Forgetting.{found_up}
 use Rattle.switch_side.specs.Changes.{is_reply_under}
 use Rattle.switch_side.specs.Collecting.{entry_calls}
 use Rattle.switch_side.proofs.Standing.{SameRest}
+use Rattle.flowspace.proofs.Refusing.{is_value-Some}
 
 -- ---- the rest of a state
 
@@ -227,13 +228,9 @@ some_told kinds.Flow sent g xid is = some_of statistics.FLOW xid g.entries
 some_told kinds.Port sent g xid is = some_of statistics.PORT xid g.entries
 some_told kinds.Queue sent g xid is = some_of statistics.QUEUE xid g.entries
 
-value_is : (sent : ℕ) (found : Option ℕ) → is_value sent found ≡ true → found ≡ Some sent
-value_is sent None is = absurd (true≢false (sym is))
-value_is sent (Some other) is = ap (λ (n : ℕ). Some n) (eqb-true other sent is)
-
 -- a request that collects a type has asked for it
 pub type_collected : (request : Issued) (sent : ℕ) (calls : List CollectionCall) → collects request sent calls ≡ true → type_sent request.asked.kind ≡ Some sent
-type_collected request sent calls open_ = value_is sent (type_sent request.asked.kind) (and_parts (is_value sent (type_sent request.asked.kind)) (is_among request.number (collecting calls)) open_).0
+type_collected request sent calls open_ = is_value-Some sent (type_sent request.asked.kind) (and_parts (is_value sent (type_sent request.asked.kind)) (is_among request.number (collecting calls)) open_).0
 
 pub end_told : (s : Settings) (x sent : ℕ) (request : Issued) (entries : List (List ℕ)) (view : List Item) → request_for s x (request_calls s (past_of s view)) ≡ Some request → collects request sent (collection_calls s (past_of s view)) ≡ true
     → is_any (answer_to s (with_entries s x sent entries view) (Last x sent)).to_slice ≡ true

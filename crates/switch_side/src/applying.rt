@@ -65,7 +65,7 @@ fn make_room_at(states: &mut [SliceState], place: usize, change: &Change) -> Res
 }
 
 /// Makes the room that `apply_all` of the changes needs, and leaves what the states stand for as it was. That
-/// there is none is answered as want of memory, and so are changes whose slots don't ascend.
+/// there is none is answered as out of memory, and so are changes whose slots don't ascend.
 #[inline(always)]
 pub fn reserve(states: &mut [SliceState], changes: &[(u8, Change)]) -> Result<(), AllocError>
     ensures stands { StandOn states.old states.new }

@@ -111,7 +111,7 @@ fn sums_replied(
 }
 
 /// The replies with the entries that a request collects, with these more. That one has place in no reply would
-/// be answered as want of memory; but each came in a message.
+/// be answered as out of memory; but each came in a message.
 fn entries_replied(
     alloc: Global,
     collections: &Collections,

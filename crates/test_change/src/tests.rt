@@ -1,2 +1,1 @@
 mod plans;
-mod tables;

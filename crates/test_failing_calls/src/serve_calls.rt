@@ -2,14 +2,14 @@ ghost use Rattle.std.specs.Prelude.{◌≡◌, None, IfOk};
 
 use crate::compared_connections::{Heard, Line, Port, TURNS, link};
 use expectations::{expect, expect_eq};
-use fv_base::{MemoryFiles, MemorySink, Words};
+use fv_base::{MemoryFiles, MemorySink};
 use fv_live::{Host, Links, MemoryWires};
 use live_samples::devices::{
     ALICE, BOB, Device, GREETING, IN, Long, NOTHING, OUT, SWITCH, Stream, TO_22, UNANSWERED,
 };
 use live_samples::{ClosureSpawner, FEATURES, LANE, POLICY, Still, words};
 use live_serve::{Gate, SessionWork, Side};
-use serve_samples::{begin, status};
+use serve_samples::{Call, begin, status};
 use std::alloc::{AllocError, Global};
 use std::collections::VecDeque;
 use std::net::{Net, TcpListener, TcpStream};
@@ -269,22 +269,14 @@ fn wires(rt: HostRuntime, alloc: Global, case: &Case, seen: &Seen) -> Result<Por
     Ok(MemoryWires::new(alloc, connections, Vec::new(alloc), links))
 }
 
-/// What a call is made with beside its spawner, and what it puts.
-#[derive(Drop)]
-struct Call {
-    words: Words,
-    files: MemoryFiles,
-    wires: Ports,
-    gate: CaseGate,
-    err: MemorySink,
-}
+type CaseCall = Call<Ports, CaseGate>;
 
 fn prepared(
     rt: HostRuntime,
     alloc: Global,
     case: &Case,
     seen: &Arc<Seen, Global>,
-) -> Result<Call, AllocError>
+) -> Result<CaseCall, AllocError>
     ensures { IfOk result (λ call. call.wires.place ≡ None) }
 {
     let mut files = MemoryFiles::new(alloc);
@@ -302,7 +294,7 @@ fn prepared(
 }
 
 // Each was sent what it is to be sent, and all works have ended.
-fn expect_served(case: &Case, seen: &Seen, call: &Call, status: u8) -> Result<(), Fail> {
+fn expect_served(case: &Case, seen: &Seen, call: &CaseCall, status: u8) -> Result<(), Fail> {
     expect_eq!(status, 0);
     expect!(call.err.as_slice().is_empty());
     expect!(seen.is_none_held());
@@ -321,16 +313,7 @@ fn controller_that_cannot_be_dialled_stops_no_other(rt: HostRuntime) -> Result<(
         Vec::new(alloc),
         |work: CallWork| begin(rt, &seen.ended, work),
     );
-    let status = status(
-        &rt,
-        alloc,
-        &call.words,
-        &mut call.files,
-        &mut call.wires,
-        &call.gate,
-        &mut spawner,
-        &mut call.err,
-    );
+    let status = status(&rt, alloc, &mut call, &mut spawner);
     expect_served(&ALICE_IS_NOT_THERE, &seen, &call, status)
 }
 
@@ -344,15 +327,6 @@ fn connection_of_a_switch_that_takes_nothing_is_ended(rt: HostRuntime) -> Result
         Vec::new(alloc),
         |work: CallWork| begin(rt, &seen.ended, work),
     );
-    let status = status(
-        &rt,
-        alloc,
-        &call.words,
-        &mut call.files,
-        &mut call.wires,
-        &call.gate,
-        &mut spawner,
-        &mut call.err,
-    );
+    let status = status(&rt, alloc, &mut call, &mut spawner);
     expect_served(&LANE_IS_CHOKED, &seen, &call, status)
 }

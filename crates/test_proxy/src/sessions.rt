@@ -7,7 +7,7 @@
 //! the switch answers. It `gets` the oldest message, which is this one, or `passes` so many messages, or `finds` no
 //! message and why. The switch `is` told or untold, by its datapath id, and a slice is up or down, missing, or unknown
 //! before the switch has told what it is. A `#` at the end stands for the number of the time, from 0, in eight digits. A row of another form
-//! is a mistake in a test. It is answered as want of memory, so that the test fails.
+//! is a mistake in a test. It is answered as out of memory, so that the test fails.
 
 mod messages;
 

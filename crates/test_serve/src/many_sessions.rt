@@ -5,7 +5,7 @@ use fv_base::{Failed, MemoryFiles, MemorySink};
 use fv_live::{Host, Links, MemorySource, MemoryWires, SharedSink, Wires};
 use live_samples::{ClosureSpawner, POLICY, SWITCH, Sent, Still, nothing, source, words};
 use live_serve::{Gate, SessionWork, Side};
-use serve_samples::{begin, status};
+use serve_samples::{Call, begin, status};
 use std::alloc::{AllocError, Global};
 use std::collections::VecDeque;
 use std::net::{Net, TcpListener, TcpStream};
@@ -149,29 +149,25 @@ fn one_session_too_many_is_closed_and_later_ones_are_served(rt: HostRuntime) -> 
     };
     let mut files = MemoryFiles::new(alloc);
     files.add("policy", POLICY.as_bytes())?;
-    let mut wires = Paced {
+    let wires = Paced {
         wires: wires(rt, alloc, &switches)?,
         at_once: SESSIONS + 1,
         later: Arc::try_clone(&gate.later)?,
         ended: Arc::try_clone(&ended)?,
+    };
+    let mut call = Call {
+        words: words(alloc, &["serve", "policy", "here", "19"])?,
+        files,
+        wires,
+        gate,
+        err: MemorySink::new(alloc),
     };
     let mut spawner = ClosureSpawner::new(
         alloc,
         Vec::new(alloc),
         |work: SessionWork<_, Still, Held>| begin(rt, &ended, work),
     );
-    let mut err = MemorySink::new(alloc);
-    let words = words(alloc, &["serve", "policy", "here", "19"])?;
-    let status = status(
-        &rt,
-        alloc,
-        &words,
-        &mut files,
-        &mut wires,
-        &gate,
-        &mut spawner,
-        &mut err,
-    );
+    let status = status(&rt, alloc, &mut call, &mut spawner);
     expect_eq!(status, 0);
     expect_eq!(ended.load(Ordering::SeqCst), WORKS_OF_ALL);
     let one_too_many = switches.get(SESSIONS).ok_or("no seventeenth connection")?;

@@ -9,7 +9,7 @@ use live_samples::{
     words,
 };
 use live_serve::SessionWork;
-use serve_samples::status;
+use serve_samples::{Call, status};
 use std::alloc::{AllocError, Global};
 use std::collections::VecDeque;
 use std::sync::{Arc, Wait};
@@ -55,30 +55,24 @@ fn two_switches_are_served_beside_each_other(rt: HostRuntime) -> Result<(), Fail
     let alice = nothing(alloc, 2)?;
     let bob = nothing(alloc, 2)?;
     let lane = bytes(alloc, &LANE)?;
-    let gate = Order::new(alloc, lane, &switches, &alice, &bob)?;
     let mut files = MemoryFiles::new(alloc);
     files.add("policy", POLICY.as_bytes())?;
-    let mut wires = wires(rt, alloc, &switches, &alice, &bob)?;
+    let mut call = Call {
+        words: words(alloc, &["serve", "policy", "here", "2"])?,
+        files,
+        wires: wires(rt, alloc, &switches, &alice, &bob)?,
+        gate: Order::new(alloc, lane, &switches, &alice, &bob)?,
+        err: MemorySink::new(alloc),
+    };
     let mut spawner = ClosureSpawner::new(
         alloc,
         Vec::new(alloc),
         |work: SessionWork<_, Still, Order>| { thread::spawn(&rt, move || work.run(&rt)).ok() },
     );
-    let mut err = MemorySink::new(alloc);
-    let words = words(alloc, &["serve", "policy", "here", "2"])?;
-    let status = status(
-        &rt,
-        alloc,
-        &words,
-        &mut files,
-        &mut wires,
-        &gate,
-        &mut spawner,
-        &mut err,
-    );
+    let status = status(&rt, alloc, &mut call, &mut spawner);
     expect_eq!(status, 0);
-    expect!(err.as_slice().is_empty());
-    expect_eq!(gate.held_too_long(), 0);
+    expect!(call.err.as_slice().is_empty());
+    expect_eq!(call.gate.held_too_long(), 0);
     expect!(all_hold(&rt, alloc, &switches, &bytes(alloc, &LANE)?));
     expect!(all_hold(&rt, alloc, &alice, &TO_ALICE[0]));
     expect!(all_hold(&rt, alloc, &alice, &TO_ALICE[1]));

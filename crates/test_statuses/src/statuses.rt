@@ -2,11 +2,11 @@ ghost use Rattle.std.specs.Prelude.{◌≡◌, None, IfOk};
 
 use crate::threads::begin;
 use expectations::expect_eq;
-use fv_base::{Failed, MemoryFiles, MemorySink, Words};
+use fv_base::{Failed, MemoryFiles, MemorySink};
 use fv_live::{Links, MemoryWires, Source};
 use live_samples::{ClosureSpawner, POLICY, Still, words};
 use live_serve::{OpenGate, SessionWork};
-use serve_samples::status;
+use serve_samples::{Call, status};
 use std::alloc::{AllocError, Global};
 use std::collections::VecDeque;
 use std::sync::Arc;
@@ -212,40 +212,46 @@ fn wires(alloc: Global, heard: &[Heard], failing: &[u64]) -> Result<Ports, Alloc
     Ok(MemoryWires::new(alloc, connections, failing, links))
 }
 
-/// What a call is made with beside its spawner, what it puts, and which of two switches are listened to.
+/// A call, and which of two switches are listened to.
 #[derive(Drop)]
-struct Call {
-    words: Words,
-    files: MemoryFiles,
-    wires: Ports,
-    err: MemorySink,
+struct CaseCall {
+    call: Call<Ports, OpenGate>,
     heard: Vec<Heard>,
 }
 
-impl Call {
-    fn new(alloc: Global, case: &Case) -> Result<Call, AllocError>
-        ensures { IfOk result (λ call. call.wires.place ≡ None) }
+impl CaseCall {
+    fn new(alloc: Global, case: &Case) -> Result<CaseCall, AllocError>
+        ensures { IfOk result (λ call. call.call.wires.place ≡ None) }
     {
         let mut heard = Vec::new(alloc);
         for _ in 0..2 {
             heard.push(Arc::new(alloc, AtomicBool::new(false))?)?;
         }
-        Ok(Call {
+        let call = Call {
             words: words(alloc, case.words)?,
             files: files(alloc, case.reads)?,
             wires: wires(alloc, &heard, case.calls)?,
+            gate: OpenGate,
             err: MemorySink::new(alloc),
-            heard,
-        })
+        };
+        Ok(CaseCall { call, heard })
     }
 
     // It ended so, by when so many works had run to their ends.
     fn expect(&self, case: &Case, status: u8, works: u64) -> Result<(), Fail> {
         let words = case.words;
         expect_eq!(status, case.status, ("status", words));
-        expect_eq!(self.err.as_slice(), case.line.as_bytes(), ("line", words));
+        expect_eq!(
+            self.call.err.as_slice(),
+            case.line.as_bytes(),
+            ("line", words)
+        );
         expect_eq!(works, case.works, ("works", words));
-        expect_eq!(self.wires.faults("here"), case.faults, ("faults", words));
+        expect_eq!(
+            self.call.wires.faults("here"),
+            case.faults,
+            ("faults", words)
+        );
         for (place, heard) in self.heard.iter().enumerate() {
             let is_heard = heard.load(Ordering::SeqCst);
             expect_eq!(is_heard, place < case.switches, ("switch", place, words));
@@ -265,17 +271,8 @@ fn calls_end_with_their_statuses_and_lines(rt: HostRuntime) -> Result<(), Fail> 
             starts,
             |work: CallWork| begin(rt, &ended, work),
         );
-        let mut call = Call::new(alloc, &case)?;
-        let status = status(
-            &rt,
-            alloc,
-            &call.words,
-            &mut call.files,
-            &mut call.wires,
-            &OpenGate,
-            &mut spawner,
-            &mut call.err,
-        );
+        let mut call = CaseCall::new(alloc, &case)?;
+        let status = status(&rt, alloc, &mut call.call, &mut spawner);
         call.expect(&case, status, ended.load(Ordering::SeqCst))?;
     }
     Ok(())

@@ -9,6 +9,7 @@ use Rattle.of10_port.specs.declared.protocol.TheConstants.{FLOOD, ALL}
 use Rattle.flowspace.specs.declared.rules.Rule.{Rule}
 use Rattle.flowspace.specs.Owners.{HasPort}
 use Rattle.flowspace.proofs.Along.{option_map-None}
+use Rattle.flowspace.proofs.Exchanging.{either_false}
 use Rattle.action_check.specs.declared.origin.Origin.{Origin}
 use Rattle.action_check.specs.declared.fault.CheckFault.{CheckFault}
 use Rattle.action_check.specs.declared.fault.CheckFault.TheVariants.{Refused, TooMany}
@@ -19,7 +20,6 @@ use Rattle.action_check.proofs.Answering.{permitted-None}
 use Rattle.lane_laws.proofs.Own.{permitted_ways}
 use Rattle.trace_audit.specs.declared.why.Why.TheVariants as why
 use Rattle.trace_audit.specs.Judging.{is_flooding, action_code}
-use Rattle.trace_audit.proofs.Nothing.{or_false}
 
 -- an output to ports, if some stand for its port, and else itself
 abbrev put_by : ℕ → ℕ → Option (List ℕ) → List Action
@@ -29,7 +29,7 @@ none_for : (port : ℕ) → (port == FLOOD) ≡ false → (port == ALL) ≡ fals
 none_for port e f = cond-false (port == FLOOD) (Some []) (if port == ALL then Some [] else None) e ∙ cond-false (port == ALL) (Some []) None f
 
 spread_same : (action : Action) → is_flooding action ≡ false → spread [] [] action ≡ action ∷ []
-spread_same (Output port max_len) e = let each = or_false (port == FLOOD) (port == ALL) e in ap (put_by port max_len) (none_for port each.0 each.1)
+spread_same (Output port max_len) e = let each = either_false (port == FLOOD) (port == ALL) e in ap (put_by port max_len) (none_for port each.0 each.1)
 spread_same (SetVlanVid vlan) e = refl
 spread_same (SetVlanPcp priority) e = refl
 spread_same StripVlan e = refl
@@ -46,7 +46,7 @@ spread_same (Enqueue port queue) e = refl
 expanded_same : (actions : List Action) → list_any is_flooding actions ≡ false → expanded [] [] actions ≡ actions
 expanded_same [] e = refl
 expanded_same (action ∷ others) e =
-    let each = or_false (is_flooding action) (list_any is_flooding others) e in
+    let each = either_false (is_flooding action) (list_any is_flooding others) e in
     rw (spread_same action each.0, expanded_same others each.1) refl
 
 code_None : (rs : List Rule) (slot : ℕ) (origin : Origin) (actions : List Action) → action_code rs slot origin actions ≡ None → (list_any is_flooding actions ≡ false) × (first_code rs slot origin actions ≡ None)

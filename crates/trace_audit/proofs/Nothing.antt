@@ -1,5 +1,5 @@
 -- What it means that nothing is wrong.
-use Rattle.std.proofs.Common.{◌≡◌, not, ◌||◌, Bool, true, false, [], ◌∷◌, Option, Some, None, refl}
+use Rattle.std.proofs.Common.{◌≡◌, not, Bool, true, false, [], ◌∷◌, Option, Some, None, refl}
 use Rattle.flowspace.specs.Options.{first_some, when}
 use Rattle.trace_audit.specs.declared.why.Why.{Why}
 
@@ -10,10 +10,6 @@ when_None false x e = refl
 pub not_false : (b : Bool) → not b ≡ false → b ≡ true
 not_false true e = refl
 not_false false e = absurd (cc)
-
-pub or_false : (a b : Bool) → (a || b) ≡ false → (a ≡ false) × (b ≡ false)
-or_false true b e = absurd (cc)
-or_false false b e = (refl, e)
 
 pub four_None : (a b c d : Option Why) → first_some (a ∷ b ∷ c ∷ d ∷ []) ≡ None → (a ≡ None) × (b ≡ None) × (c ≡ None) × (d ≡ None)
 four_None None None None None e = (refl, refl, refl, refl)

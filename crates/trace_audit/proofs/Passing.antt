@@ -1,11 +1,11 @@
 -- What passes keeps the flowspace.
-use Rattle.std.proofs.Common.{◌≡◌, ◌⊎◌, inl, inr, ℕ, ◌<◌, ◌^◌, ◌==◌, ◌&&◌, ◌||◌, not, Bool, true, false, List, All, Option, Some, None, option_map, IfSome, refl, sym, subst, ◌∙◌, arith, eqb-true, eq-eqb}
+use Rattle.std.proofs.Common.{◌≡◌, ◌⊎◌, inl, inr, ℕ, ◌==◌, ◌&&◌, ◌||◌, not, Bool, true, false, List, All, Option, Some, None, option_map, refl, sym, subst, ◌∙◌, eqb-true, eq-eqb}
 use Rattle.std.proofs.lemmas.Bool.{cases_Bool, and_parts, or_cases, cond-true, cond-false, true≢false}
 use Rattle.std.proofs.lemmas.List.Elements.{All-weaker}
 use Rattle.std.proofs.lemmas.List.Folds.{Any-from_list_any}
 use Rattle.of10_model.specs.declared.pattern.Pattern.{Pattern}
 use Rattle.of10_model.specs.Header.{Header, IsHeader}
-use Rattle.of10_model.specs.Pattern.{Has, has, Meets}
+use Rattle.of10_model.specs.Pattern.{Has, has}
 use Rattle.of10_model.specs.Inclusion.{includes_of, any_in_port}
 use Rattle.of10_model.proofs.Including.{Has-includes}
 use Rattle.of10_model.proofs.Membership.{Has-has}
@@ -19,7 +19,7 @@ use Rattle.of10_flow.specs.Tables.{is_delete}
 use Rattle.frame_header.specs.Headers.{header_of_packet}
 use Rattle.flowspace.specs.declared.slices.Slice.{Slice}
 use Rattle.flowspace.specs.declared.rules.Rule.{Rule}
-use Rattle.flowspace.specs.Rules.{IsInPort, IsPlainRule, is_written_by}
+use Rattle.flowspace.specs.Rules.{IsPlainRule, is_written_by}
 use Rattle.flowspace.specs.Policies.{IsSwitchPolicy}
 use Rattle.flowspace.specs.Options.{when}
 use Rattle.flowspace.specs.Owners.{Writes, Owns, has_port}
@@ -31,10 +31,12 @@ use Rattle.frame_header.proofs.Probes.{slot-exactly}
 use Rattle.action_check.specs.declared.origin.Origin.{Origin}
 use Rattle.action_check.specs.declared.origin.Origin.TheVariants.{Piece, Packet, Probe}
 use Rattle.action_check.specs.Soundness.{HasWay}
+use Rattle.action_check.proofs.Aside.{entry_for}
 use Rattle.flow_facts.specs.PacketOuts.{carried_header, MayComeBy, CarriesWritten, SendsToOwnPort, SendsProbeToOwnPort}
 use Rattle.flow_facts.specs.FlowMods.{LiesInFlowspace, NamesOwnPort, OutputsToOwnPorts}
 use Rattle.lane_laws.proofs.Own.{named, named_out, named_probe}
 use Rattle.lane_laws.proofs.Sent.{leaves}
+use Rattle.lane_laws.proofs.Outs.{entry_below, has_by}
 use Rattle.trace_audit.specs.declared.why.Why.TheVariants as why
 use Rattle.trace_audit.specs.Judging.{is_written, is_written_header, action_code, kind_why, space_why, packet_why, buffer_why, action_why, flow_mod_why, is_marked, may_come, carried_space_why, entry_why, carried_origin, carried_why, held_why, packet_out_why}
 use Rattle.trace_audit.specs.Facts.{KeepsFlowspace, KeepsPackets}
@@ -98,43 +100,12 @@ flow_mod_passed ss rs policy held slot m e =
 
 -- ---- packet-outs
 
-abbrev entry_of : Option ℕ → ℕ
-entry_of None = 0
-entry_of (Some port) = port
-
-entry_below : (c : Option ℕ) → IfSome c IsInPort → entry_of c < 2 ^ 16
-entry_below None known = omega arith
-entry_below (Some v) (inl le) = omega (arith, le)
-entry_below (Some v) (inr is) = omega (arith, is)
-
-entry_meets : (c : Option ℕ) → Meets c (entry_of c)
-entry_meets None = tt
-entry_meets (Some v) = refl
-
--- a match that has a packet's header but for its port has it by some port
-has_by : (m : Pattern) (bytes : List ℕ) (in_port : ℕ) → Has (any_in_port m) (header_of_packet in_port bytes) → Has m (header_of_packet (entry_of m.in_port) bytes)
-unfolding header_of_packet
-has_by m bytes in_port has = record {
-  in_port = entry_meets m.in_port;
-  dl_src = has.dl_src;
-  dl_dst = has.dl_dst;
-  dl_vlan = has.dl_vlan;
-  dl_vlan_pcp = has.dl_vlan_pcp;
-  dl_type = has.dl_type;
-  nw_tos = has.nw_tos;
-  nw_proto = has.nw_proto;
-  nw_src = has.nw_src;
-  nw_dst = has.nw_dst;
-  tp_src = has.tp_src;
-  tp_dst = has.tp_dst;
-}
-
 carries : (ss : List Slice) (rs : List Rule) → IsSwitchPolicy ss rs → (slot : ℕ) (m : PacketOut) → is_written_header rs slot false (carried_header m) ≡ true → CarriesWritten rs slot m
 carries ss rs policy slot m e =
     let some = Any-from_list_any (λ rule. covers_header slot false rule (carried_header m)) rs e in
     let rule = some.1 in
     let parts = and_parts (is_written_by slot rule) (has (any_in_port rule.pattern) (carried_header m)) some.4 in
-    let entry = entry_of rule.pattern.in_port in
+    let entry = entry_for rule.pattern.in_port 0 in
     let plain : IsPlainRule rule = subst IsPlainRule some.3 (policy.proper.plain_rules some.0 rule some.2) in
     let has_rule : Has rule.pattern (header_of_packet entry m.payload) = has_by rule.pattern m.payload m.in_port (Has-has (any_in_port rule.pattern) (carried_header m) parts.1) in (
       entry,

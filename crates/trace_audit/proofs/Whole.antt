@@ -1,10 +1,10 @@
 -- Where nothing is wrong with a trace, each message of it that was sent for a slice has its facts.
 use Rattle.std.proofs.Common.{◌≡◌, ℕ, ◌==◌, ◌-◌, ◌+◌, ◌<◌, List, [], ◌∷◌, ◌++◌, map, reverse, length, slice_index, inl, inr, Option, Some, None, option_map, IfOk, Result, Ok, Err, refl, sym, ap, subst, ◌∙◌, eq-eqb, append-nil, append_assoc}
-use Rattle.std.specs.Option.{option_or}
 use Rattle.std.proofs.lemmas.Bool.{cond-true, cases_lt}
 use Rattle.std.proofs.lemmas.List.{reverse-append}
 use Rattle.of10_ctl.specs.Frames.{IsFrame}
 use Rattle.flowspace.specs.Policies.{PolicyView, IsPolicy}
+use Rattle.flowspace.proofs.Along.{option_or-None, option_map-None}
 use Rattle.recording.specs.declared.item.Item.{Item}
 use Rattle.recording.specs.declared.layout.Layout.TheVariants.{Trace}
 use Rattle.recording.specs.Recordings.{Told, IsRead, item_at, read_trace, sent_bytes}
@@ -19,15 +19,6 @@ use Rattle.trace_audit.specs.Facts.{KeepsSlice}
 use Rattle.trace_audit.proofs.Frames.{carried_frame}
 use Rattle.recording.proofs.Left.{AreLeft, left_first, next_of, none_left}
 use Rattle.trace_audit.proofs.Sent.{message_passed}
-
--- a record with which nothing is wrong, and which isn't the first of those left
-none_first : {A : Type 0} (x : Option A) (y : Option A) → option_or x y ≡ None → (x ≡ None) × (y ≡ None)
-none_first None y e = (refl, e)
-none_first (Some a) y e = absurd (cc)
-
-none_mapped : {A B : Type 0} (f : A → B) (x : Option A) → option_map f x ≡ None → x ≡ None
-none_mapped f None e = refl
-none_mapped f (Some a) e = absurd (cc)
 
 -- the first of some records is the last of them from behind
 newest_first : (x : Told) (front before : List Told) → reverse (x ∷ front) ++ before ≡ reverse front ++ x ∷ before
@@ -57,12 +48,12 @@ module _ (policy : PolicyView) (accepted : IsPolicy policy.slices policy.rules) 
   behind_passed before [] frames none [] r later is sent = absurd (cc)
   behind_passed before [] frames none (x ∷ front) r later is sent = absurd (cc)
   behind_passed before (item ∷ items) frames none [] r later is sent =
-      let parts = none_first (option_map (λ w. (item.from - 16, w)) (record_why policy before (told_of item))) _ none in
+      let parts = option_or-None (option_map (λ w. (item.from - 16, w)) (record_why policy before (told_of item))) _ none in
       let same : told_of item ≡ r = cc in
       let frame : HasFrame (told_of item) = frames [] (told_of item) (map told_of items) refl in
-      subst (λ (t : Told). t.kind ≡ sent_bytes → KeepsSlice policy (session_of t.switch before) t.slot t.bytes) same (one_passed before (told_of item) frame (none_mapped _ (record_why policy before (told_of item)) parts.0)) sent
+      subst (λ (t : Told). t.kind ≡ sent_bytes → KeepsSlice policy (session_of t.switch before) t.slot t.bytes) same (one_passed before (told_of item) frame (option_map-None _ (record_why policy before (told_of item)) parts.0)) sent
   behind_passed before (item ∷ items) frames none (x ∷ front) r later is sent =
-      let parts = none_first (option_map (λ w. (item.from - 16, w)) (record_why policy before (told_of item))) _ none in
+      let parts = option_or-None (option_map (λ w. (item.from - 16, w)) (record_why policy before (told_of item))) _ none in
       let same : told_of item ≡ x = cc in
       let rest : map told_of items ≡ front ++ r ∷ later = cc in
       let later_frames : HaveFrames (map told_of items) = λ front' r' later' is'. frames (told_of item ∷ front') r' later' (ap (λ (l : List Told). told_of item ∷ l) is') in

@@ -7,24 +7,16 @@ ghost use Rattle.desk_words.specs.declared.event.Event.TheVariants.{SwitchUp, Sw
 ghost use Rattle.desk_words.specs.declared.event.Timed.{Timed};
 ghost use Rattle.desk_words.specs.Openings.{phase_after};
 ghost use Rattle.desk_words.specs.Arrivals.{buffer_header};
-ghost use Rattle.desk_words.specs.Recorded.{timed_at, bytes_carried};
+ghost use Rattle.desk_words.specs.Recorded.{timed_at};
 ghost use Rattle.trace_audit.specs.Standing.{first_told, bytes_at, IsFrameAt, SessionStands, HasNoted};
 
 use crate::heard::{Heard, header_heard, heard_from};
-use desk_words::Phase;
+use desk_words::{Phase, carried};
 use of10_ctl::Frame;
 use of10_match::Header12;
-use recording::{Item, item_at};
+use recording::item_at;
 use std::alloc::{AllocError, Global};
 use std::collections::BTreeMap;
-
-/// The bytes that a record of the file carries.
-pub(crate) fn carried<'a>(file: &'a [u8], item: &Item) -> &'a [u8]
-    ensures { result.now ≡ bytes_carried file.now item.now }
-{
-    let rest = file.get(item.from..).unwrap_or(&[]);
-    &rest[..item.size.min(rest.len())]
-}
 
 /// What is known of a switch since it last connected.
 #[derive(Drop)]

@@ -13,8 +13,9 @@ ghost use Rattle.trace_audit.specs.Auditing.{message_why};
 ghost use Rattle.trace_audit.specs.Standing.{IsFrameAt, SessionStands, AreRulesOf, SwitchStands, IsFresh, Takes};
 
 use crate::messages::message_why;
-use crate::session::{Session, carried};
+use crate::session::Session;
 use crate::why::Why;
+use desk_words::carried;
 use flowspace::{Policy, SwitchPolicy};
 use of10_ctl::Frame;
 use recording::{Item, SENT_BYTES, SWITCH_BYTES, SWITCH_UP};

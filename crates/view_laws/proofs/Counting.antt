@@ -4,16 +4,11 @@ use Rattle.rate_bucket.specs.Rates.{latest as greatest, Conforms, is_conforming,
 use Rattle.rate_bucket.proofs.Levels.{conforms}
 use Rattle.slice_words.specs.Messages.{is_question}
 use Rattle.slice_words.specs.Items.{Settings, Item, Opened, Up, Down, Msg, Lost, Handed, Removed, Status, Fault, Barrier, Queues, Entry, Last, End, is_up, latest_moment}
-use Rattle.slice_words.specs.Pasts.{view_in}
 use Rattle.slice_words.specs.Calls.{asks_rate, questions}
 use Rattle.slice_words.specs.Answers.{answer, keeps_rate}
-use Rattle.slice_words.specs.Alone.{Answering, played}
 use Rattle.slice_words.specs.Standing.{past_of}
+use Rattle.slice_words.proofs.Holding.{view_in-played}
 use Rattle.view_laws.specs.Rates.{counted_moments}
-
-view_in-played : (answering : Answering) (view : List Item) → view_in (played answering view) ≡ view
-view_in-played answering [] = refl
-view_in-played answering (item ∷ view) = ap (λ (items : List Item). item ∷ items) (view_in-played answering view)
 
 -- the questions after one more item
 questions-more : (s : Settings) (item : Item) (view : List Item)

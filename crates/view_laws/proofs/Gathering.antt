@@ -21,6 +21,7 @@ use Rattle.xid_map.specs.Collections.{CollectionCall, Start, Add, Sum, Finish, E
 use Rattle.xid_map.specs.Laws.{NoneOf}
 use Rattle.xid_map.proofs.Gathering.{since-goes_on}
 use Rattle.xid_map.proofs.Standing.{begins_not}
+use Rattle.xid_map.proofs.Collecting.{since-begin}
 use Rattle.stats_filter.specs.Asking.{type_sent}
 use Rattle.slice_words.specs.Messages.{is_dismissing, kind_asked}
 use Rattle.slice_words.specs.Items.{Settings, message_read, Item, Opened, Up, Down, Msg, Lost, Handed, Removed, Status, Fault, Barrier, Queues, Entry, Last, End}
@@ -217,10 +218,6 @@ since_with number these calls (inr (call, is)) within = rw is (since-goes_on num
     no_begin (Finish other) = refl
     no_begin EndAll = refl
 
-since_begun : (number : ℕ) (calls : List CollectionCall) → is_among number (collecting calls) ≡ false → since number (Start number ∷ calls) ≡ []
-unfolding since
-since_begun number calls out = rw (eq-eqb number number refl, out) refl
-
 -- the requests that are remembered are of earlier messages
 made_below : (s : Settings) (later : List Item) (item : Item) (earlier : List Item) → is_request s earlier item ≡ true → next_number s earlier < next_number s (later ++ (item ∷ earlier))
 made_below s later item earlier asks =
@@ -394,7 +391,7 @@ module _ (s : Settings) (number : ℕ) (message : List ℕ) (moment : ℕ) (earl
       let started : collections_after s base ≡ Start number ∷ calls = rw numbered (started_call s earlier message moment asks) in
       let out : is_among number (collecting calls) ≡ false = rw numbered (not_begun s earlier) in
       let nothing : entries_for s number asked base ≡ [] = append-nil (entries_for s number asked earlier) ∙ none_before s earlier number asked (omega (arith, numbered)) in
-      rw (started, since_begun number calls out, nothing) none_first
+      rw (started, since-begin number calls out, nothing) none_first
 
   pub held_through : (later : List Item) → NoneOf (ItemEndsCollecting s number) later base → HoldsOf (since number (collections_after s (later ++ base))) (entries_for s number asked (later ++ base))
   held_through [] none = at_first

@@ -1,5 +1,5 @@
 -- Which request is remembered, in words of the view.
-use Rattle.std.proofs.Common.{◌≡◌, ◌≢◌, ℕ, ◌+◌, ◌*◌, ◌%◌, ◌≤◌, ◌↔◌, ◌&&◌, ◌||◌, Bool, true, false, IsTrue, if◌then◌else◌, List, [], ◌∷◌, ◌++◌, zero, suc, length, Contains, refl, sym, ap, subst, ◌∙◌, true≢false, inl, inr, arith, Option, Some, None}
+use Rattle.std.proofs.Common.{◌≡◌, ◌≢◌, ℕ, ◌+◌, ◌*◌, ◌%◌, ◌≤◌, ◌&&◌, ◌||◌, Bool, true, false, if◌then◌else◌, List, [], ◌∷◌, ◌++◌, zero, length, Contains, refl, sym, ap, subst, ◌∙◌, true≢false, inl, inr, arith, Option, Some, None}
 use Rattle.std.specs.Prelude.{◌==◌}
 use Rattle.std.specs.List.{list_any}
 use Rattle.std.proofs.lemmas.Bool.{cases_Bool, or_parts}
@@ -9,7 +9,7 @@ use Rattle.xid_map.specs.declared.asked.Asked.{Asked}
 use Rattle.xid_map.specs.declared.asked.Issued.{Issued}
 use Rattle.xid_map.specs.Requests.{RequestCall, Issue, MarkError, MarkDone, Forget, issued, physical_of, found}
 use Rattle.xid_map.specs.Laws.{IsFoundRequest}
-use Rattle.xid_map.proofs.Finding.{IsFound-found, found-IsFound}
+use Rattle.xid_map.proofs.Finding.{IsFound-found, found-IsFound, contains_rest, told_more, told_here, told_none, issued-append, same_request}
 use Rattle.slice_words.specs.Messages.{is_dismissing, asked_of}
 use Rattle.slice_words.specs.Items.{Settings, message_read, Item, Opened, Up, Down, Msg, Lost, Handed, Removed, Status, Fault, Barrier, Queues, Entry, Last, End, is_forgetting}
 use Rattle.slice_words.specs.Pasts.{Answer, is_any}
@@ -20,28 +20,6 @@ use Rattle.view_laws.proofs.Making.{made_over, all-one, made_by}
 use Rattle.view_laws.proofs.Requesting.{requests_after, requests_given, requests_made, issued-requests, issue_from, issue_of, forget_from}
 
 -- ---- calls among calls
-
-contains_rest : (call : RequestCall) (later : List RequestCall) (sought : RequestCall) → call ≢ sought → Contains (call ∷ later) sought → Contains later sought
-contains_rest call later sought apart (zero, lt, e) = absurd (apart e)
-contains_rest call later sought apart (suc k, lt, e) = (k, omega (arith, lt), e)
-
--- a call that isn't the one that is sought leaves whether that is there
-told_more : (b : Bool) (call : RequestCall) (later : List RequestCall) (sought : RequestCall) → call ≢ sought → IsTrue b ↔ Contains later sought
-    → IsTrue b ↔ Contains (call ∷ later) sought
-told_more b call later sought apart h = (λ e. Contains-append_right (call ∷ []) later sought (h.0 e), λ c. h.1 (contains_rest call later sought apart c))
-
-told_here : (call : RequestCall) (later : List RequestCall) → IsTrue true ↔ Contains (call ∷ later) call
-told_here call later = (λ e. (zero, omega arith, refl), λ c. refl)
-
-told_none : (sought : RequestCall) → IsTrue false ↔ Contains [] sought
-told_none sought = (λ e. cc, λ c. absurd (omega (arith, c.1)))
-
-issued-append : (later earlier : List RequestCall) → issued (later ++ earlier) ≡ issued later + issued earlier
-issued-append [] earlier = omega arith
-issued-append (Issue asked ∷ later) earlier = omega (arith, issued-append later earlier)
-issued-append (MarkError number ∷ later) earlier = issued-append later earlier
-issued-append (MarkDone number ∷ later) earlier = issued-append later earlier
-issued-append (Forget ∷ later) earlier = issued-append later earlier
 
 count_behind : (calls later : List RequestCall) (asked : Asked) (earlier : List RequestCall) → calls ≡ later ++ (Issue asked ∷ earlier) → issued calls ≡ issued later + (issued earlier + 1)
 count_behind calls later asked earlier split = ap issued split ∙ issued-append later (Issue asked ∷ earlier)
@@ -257,9 +235,6 @@ found_through s x (item ∷ later) message moment earlier asks low kept recent =
     let parts = or_parts (is_forgetting item) (list_any is_forgetting later) kept in
     item_more s x item view (as_asked s x later message moment earlier) parts.0 (omega (arith, recent, issued-requests s (item ∷ view)))
     (found_through s x later message moment earlier asks low parts.1 (omega (arith, recent, one_more (is_request s view item) item (requests_in s view))))
-
-same_request : (a b : Issued) → a.number ≡ b.number → a.asked ≡ b.asked → a.failed ≡ b.failed → a.done ≡ b.done → a ≡ b
-same_request a b number asked failed done = rw (number, asked, failed, done) refl
 
 pub remembered-found : (s : Settings) (view : List Item) (x : ℕ) (request : Issued) → IsRemembered s view x request → remembered_for s view x ≡ Some request
 remembered-found s view x request h =

@@ -107,7 +107,7 @@ InOrder-more call calls (m ∷ ms) none h = (
   InOrder-more call calls ms (λ n within. none n (among_more n m ms within)) h.1,
 )
 
-since-begin : (number : ℕ) (calls : List CollectionCall) → is_among number (collecting calls) ≡ false → since number (Start number ∷ calls) ≡ []
+pub since-begin : (number : ℕ) (calls : List CollectionCall) → is_among number (collecting calls) ≡ false → since number (Start number ∷ calls) ≡ []
 unfolding since
 since-begin number calls out = rw (eq-eqb number number refl, out) refl
 

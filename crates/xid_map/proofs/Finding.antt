@@ -14,16 +14,16 @@ use Rattle.xid_map.proofs.Numbering.{behind, found-get, found-elsewhere}
 
 -- ---- calls among calls
 
-contains_rest : (call : RequestCall) (later : List RequestCall) (sought : RequestCall) → call ≢ sought → Contains (call ∷ later) sought → Contains later sought
+pub contains_rest : (call : RequestCall) (later : List RequestCall) (sought : RequestCall) → call ≢ sought → Contains (call ∷ later) sought → Contains later sought
 contains_rest call later sought apart (zero, lt, e) = absurd (apart e)
 contains_rest call later sought apart (suc k, lt, e) = (k, omega (arith, lt), e)
 
 -- a call that isn't the one that is sought leaves whether that is there
-told_more : (b : Bool) (call : RequestCall) (later : List RequestCall) (sought : RequestCall) → call ≢ sought → IsTrue b ↔ Contains later sought
+pub told_more : (b : Bool) (call : RequestCall) (later : List RequestCall) (sought : RequestCall) → call ≢ sought → IsTrue b ↔ Contains later sought
     → IsTrue b ↔ Contains (call ∷ later) sought
 told_more b call later sought apart h = (λ e. Contains-append_right (call ∷ []) later sought (h.0 e), λ c. h.1 (contains_rest call later sought apart c))
 
-told_here : (call : RequestCall) (later : List RequestCall) → IsTrue true ↔ Contains (call ∷ later) call
+pub told_here : (call : RequestCall) (later : List RequestCall) → IsTrue true ↔ Contains (call ∷ later) call
 told_here call later = (λ e. (zero, omega arith, refl), λ c. refl)
 
 -- a mark tells of the request of its number
@@ -34,10 +34,10 @@ told_marked mark number other later b same h = elim (eqb_tells number other) [
   | inr apart ↦ rw apart.0 (told_more b (mark other) later (mark number) (λ e. apart.1 (same e)) h)
 ]
 
-told_none : (sought : RequestCall) → IsTrue false ↔ Contains [] sought
+pub told_none : (sought : RequestCall) → IsTrue false ↔ Contains [] sought
 told_none sought = (λ e. cc, λ c. absurd (omega (arith, c.1)))
 
-issued-append : (later earlier : List RequestCall) → issued (later ++ earlier) ≡ issued later + issued earlier
+pub issued-append : (later earlier : List RequestCall) → issued (later ++ earlier) ≡ issued later + issued earlier
 issued-append [] earlier = omega arith
 issued-append (Issue asked ∷ later) earlier = omega (arith, issued-append later earlier)
 issued-append (MarkError number ∷ later) earlier = issued-append later earlier
@@ -209,7 +209,7 @@ IsFound-found slot physical calls request e = elim (eqb_tells (physical / 167772
 behind_later : (earlier later : ℕ) → later < 4096 → behind (later + (earlier + 1)) (earlier % 16777216) ≡ later
 behind_later earlier later recent = omega arith
 
-same_request : (a b : Issued) → a.number ≡ b.number → a.asked ≡ b.asked → a.failed ≡ b.failed → a.done ≡ b.done → a ≡ b
+pub same_request : (a b : Issued) → a.number ≡ b.number → a.asked ≡ b.asked → a.failed ≡ b.failed → a.done ≡ b.done → a ≡ b
 same_request a b number asked failed done = rw (number, asked, failed, done) refl
 
 pub found-IsFound : (slot physical : ℕ) (calls : List RequestCall) (request : Issued) → IsFoundRequest slot physical calls request → found slot physical calls ≡ Some request

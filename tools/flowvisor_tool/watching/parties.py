@@ -10,6 +10,8 @@ MOST_SENT, MOST_SENT_BYTES = 64, 1024
 # A side that doesn't acknowledge what it was sent for so many seconds is silent.
 SILENT = 5
 OTHER_CODE = (0xFFFF, 0xFFFF)
+# How many entries are kept, of all switches together.
+MOST_ENTRIES = 500_000
 
 
 class Party:
@@ -105,11 +107,30 @@ class SliceHere(Party):
         self.last_sent = other.last_sent
 
 
+class Room:
+    """How many entries more can be kept, of all switches together."""
+
+    def __init__(self, entries=MOST_ENTRIES):
+        self.entries = entries
+
+    def take(self):
+        """Takes the room of an entry; answers whether there was any."""
+        if not self.entries:
+            return False
+        self.entries -= 1
+        return True
+
+    def give_back(self, count):
+        """So many entries are kept no longer."""
+        self.entries += count
+
+
 class SwitchHere(Party):
     """A switch, and the slices on it."""
 
-    def __init__(self, slots, time):
+    def __init__(self, slots, time, room):
         super().__init__(time)
+        self.room = room
         self.datapath = None
         self.address = None
         self.slices = {slot: SliceHere(slot, time) for slot in slots}
@@ -136,7 +157,7 @@ class SwitchHere(Party):
         here = self.slices.get(slot)
         if here is None or pair in self.entries:
             return
-        if here.entries >= quota:
+        if here.entries >= quota or not self.room.take():
             here.entries_at_least = True
             return
         self.entries[pair] = slot, xid
@@ -148,6 +169,7 @@ class SwitchHere(Party):
         if slot is not None and xid in (None, booked_by):
             del self.entries[pair]
             self.slices[slot].entries -= 1
+            self.room.give_back(1)
 
     def disconnect(self, time, reason):
         """Its connection has ended: what it has is not known any more."""
@@ -155,7 +177,8 @@ class SwitchHere(Party):
         self.forget_entries()
 
     def forget_entries(self):
-        """The switch is set up anew, with an empty table."""
+        """The switch is set up anew, with an empty table, or isn't kept any more."""
+        self.room.give_back(len(self.entries))
         self.entries.clear()
         for here in self.slices.values():
             here.entries, here.entries_at_least = 0, False

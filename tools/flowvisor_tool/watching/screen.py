@@ -1,13 +1,30 @@
 """The state as plain text, for a terminal."""
+import re
+import textwrap
+
 INDENT = "  "
+# A narrower terminal gets rows of so many columns.
+LEAST_COLUMNS = 20
+
+
+class Wrapper(textwrap.TextWrapper):
+    """Breaks rows at blanks, and the fields of a packet or a match behind their commas: no number is cut that has room."""
+
+    wordsep_simple_re = re.compile(r"([\t\n\v\f\r ]+|(?<=,)(?=[a-z]))")
 
 
 def screen_of(state, columns, lines):
-    """The text of one screen: what doesn't fit is given by its number of lines."""
-    rows = [row[:columns] for row in rows_of(state)]
-    if len(rows) > lines:
-        rows = rows[: lines - 1] + [f".. and {len(rows) - lines + 1} lines more"[:columns]]
-    return "\n".join(rows)
+    """The text of one screen: rows that are too long are wrapped, and lines that don't fit are given by their number."""
+    shown = [line for row in rows_of(state) for line in lines_of(row, columns)]
+    if len(shown) > lines:
+        shown = shown[: lines - 1] + [f".. and {len(shown) - lines + 1} lines more"[:columns]]
+    return "\n".join(shown)
+
+
+def lines_of(row, columns):
+    """The lines of a row: where it is too long it goes on in lines that are indented further."""
+    indent = row[: len(row) - len(row.lstrip())] + 2 * INDENT
+    return Wrapper(max(columns, LEAST_COLUMNS), subsequent_indent=indent, break_on_hyphens=False).wrap(row) or [""]
 
 
 def rows_of(state):

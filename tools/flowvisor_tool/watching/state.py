@@ -13,7 +13,7 @@ def state_of(world, follower, policy):
     now = world.clock()
     return {
         "policy": str(policy),
-        "time": moment_text(now),
+        "time": moment_text(now) if follower.packets else "no packet yet",
         "capture": {
             "packets": follower.packets, "missing": follower.missing(), "unread": follower.unread(),
             "unreadable": follower.unreadable, "forgotten": world.forgotten,

@@ -6,7 +6,7 @@ from ..connections import SWITCH
 from ..ends import spelled
 from .hearing import Hearing
 from .links import How
-from .parties import SILENT, SliceHere, SwitchHere
+from .parties import SILENT, Room, SliceHere, SwitchHere
 
 MOST_SWITCHES, MOST_STRAYS, MOST_HAPPENINGS = 64, 64, 200
 # How many seconds a clock may go back without being taken as set anew.
@@ -32,6 +32,7 @@ class World:
         self.clock = clock  # tells the capture's time
         self.say = say
         self.switches = []
+        self.room = Room()
         self.strays = {}  # controllers' connections of which it isn't known for which switch they are
         self.happenings = collections.deque(maxlen=MOST_HAPPENINGS)
         self.forgotten = 0
@@ -63,7 +64,7 @@ class World:
 
     def switch_up(self, link):
         """A switch has connected. Its features say which one it is."""
-        switch = SwitchHere(self.slices, link.since)
+        switch = SwitchHere(self.slices, link.since, self.room)
         switch.address = spelled(link.client)
         self.make_room()
         self.switches.append(switch)
@@ -84,6 +85,7 @@ class World:
                 if here.link is not None:
                     here.link.view = None
             self.switches.remove(gone)
+            gone.forget_entries()
             self.forgotten += 1
 
     def controller_up(self, link):
@@ -185,6 +187,7 @@ class World:
         if before.link is not None:
             self.detach(before.link, "another connection has its datapath id")
         self.switches.remove(switch)
+        switch.forget_entries()
         switch.link = None
         before.take_over(switch)
         before.connect(link)

@@ -2,7 +2,7 @@
 
 ghost use Rattle.std.specs.Prelude.{◌≡◌, length, IfOk};
 
-use crate::tests::tables::{expect, told};
+use expectations::{expect_told, told};
 use flow_book::{FlowBook, SliceState};
 use flowspace::SwitchPolicy;
 use of10_flow::FlowMod;
@@ -224,7 +224,7 @@ fn plan_has_the_pairs_that_lie_in_no_rule_of_their_slice(rt: HostRuntime) -> Res
     for change in CHANGES {
         let messages = planned(alloc, change)?;
         let came = told(alloc, &all_shown(alloc, &messages)?)?;
-        expect(row, came.as_str(), change.planned)?;
+        expect_told(row, came.as_str(), change.planned)?;
         row = row.saturating_add(1);
     }
     Ok(())
@@ -241,7 +241,7 @@ const MOVED: Change = Change {
 fn message_deletes_the_entry_of_the_pair(rt: HostRuntime) -> Result<(), Fail> {
     let alloc = rt.alloc();
     let messages = planned(alloc, &MOVED)?;
-    expect(0, told(alloc, &messages.len())?.as_str(), "1")?;
+    expect_told(0, told(alloc, &messages.len())?.as_str(), "1")?;
     for m in &messages {
         let entry = (
             m.pattern == matched(WEB),
@@ -250,7 +250,7 @@ fn message_deletes_the_entry_of_the_pair(rt: HostRuntime) -> Result<(), Fail> {
             m.idle,
             m.hard,
         );
-        expect(1, told(alloc, &entry)?.as_str(), "(true, 10, 0, 0, 0)")?;
+        expect_told(1, told(alloc, &entry)?.as_str(), "(true, 10, 0, 0, 0)")?;
         let sent = (
             m.xid,
             m.command,
@@ -259,7 +259,7 @@ fn message_deletes_the_entry_of_the_pair(rt: HostRuntime) -> Result<(), Fail> {
             m.flags,
             m.actions.as_slice().len(),
         );
-        expect(
+        expect_told(
             2,
             told(alloc, &sent)?.as_str(),
             "(4278190085, 4, 4294967295, 65535, 0, 0)",

@@ -2,8 +2,9 @@
 
 ghost use Rattle.std.specs.Prelude.{◌≢◌, ◌≤◌, All, AllPairs, IfOk, length, IsTrue};
 
-use crate::tests::tables::{Part, expect, expect_alike, expect_seen, play, told};
+use crate::tests::tables::{Part, expect_alike, expect_seen, play};
 use draws::Draws;
+use expectations::{expect_told, told};
 use flow_book::{Booked, FlowBook, SliceState};
 use flowspace::{Slice, Text};
 use match_meet::{disjoint, includes};
@@ -537,5 +538,5 @@ fn a_new_slice_is_not_up(rt: HostRuntime) -> Result<(), Fail> {
         ),
     )?;
     let wanted = "((false, 128, 0), (0, 16777216), (0, 0), (true, true, false))";
-    expect(0, &came, wanted)
+    expect_told(0, &came, wanted)
 }

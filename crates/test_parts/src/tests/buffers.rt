@@ -1,7 +1,8 @@
 //! The packets that the switch holds for a slice.
 
-use crate::tests::tables::{Part, play, told};
+use crate::tests::tables::{Part, play};
 use buffer_map::BufferMap;
+use expectations::told;
 use samples::packet;
 use std::alloc::{AllocError, Global};
 use std::test::Fail;

@@ -2,8 +2,9 @@
 
 ghost use Rattle.std.specs.Prelude.{◌<◌, ◌^◌, length};
 
-use crate::tests::tables::{Part, expect_alike, expect_seen, play, told};
+use crate::tests::tables::{Part, expect_alike, expect_seen, play};
 use draws::Draws;
+use expectations::told;
 use std::alloc::{AllocError, Global};
 use std::test::Fail;
 use xid_map::Collections;

@@ -1,6 +1,7 @@
 //! The ports that a switch has told of, and what of them slices are shown.
 
-use crate::tests::tables::{Part, play, told};
+use crate::tests::tables::{Part, play};
+use expectations::told;
 use flowspace::{Rule, SwitchPolicy};
 use of10_port::protocol::NO_FLOOD;
 use of10_port::{Features, Port, PortStatus};

@@ -1,6 +1,7 @@
 //! The messages that wait for a connection, within its limit.
 
-use crate::tests::tables::{Part, play, told};
+use crate::tests::tables::{Part, play};
+use expectations::told;
 use of10_ctl::message;
 use outbox::Outbox;
 use std::alloc::{AllocError, Global};

@@ -1,6 +1,7 @@
 //! Recordings, spelled out as bytes: their records and their first faults.
 
-use crate::tests::tables::{Part, expect, play, told};
+use crate::tests::tables::{Part, play};
+use expectations::{expect_told, told};
 use recording::*;
 use std::alloc::{AllocError, Global};
 use std::test::Fail;
@@ -313,7 +314,7 @@ fn records_are_appended(rt: HostRuntime) -> Result<(), Fail> {
         "begin up slice slice-talks 010f1f0000000001010203040506070809",
     )?;
     let (came, wanted) = (told(alloc, &out)?, told(alloc, &wanted)?);
-    expect(0, &came, &wanted)
+    expect_told(0, &came, &wanted)
 }
 
 #[test]
@@ -324,7 +325,7 @@ fn a_trace_begins_with_its_own_bytes(rt: HostRuntime) -> Result<(), Fail> {
     add_item(&mut out, SWITCH_UP, 0, 0, 5, &[])?;
     let wanted = file_of(alloc, "trace up")?;
     let (came, wanted) = (told(alloc, &out)?, told(alloc, &wanted)?);
-    expect(0, &came, &wanted)
+    expect_told(0, &came, &wanted)
 }
 
 const TEXTS: &[(RecordingFault, &str)] = &[
@@ -337,7 +338,7 @@ const TEXTS: &[(RecordingFault, &str)] = &[
 fn a_fault_tells_its_place(rt: HostRuntime) -> Result<(), Fail> {
     for (fault, text) in TEXTS {
         let came = format!(in rt.alloc(); "{fault}")?;
-        expect(0, &came, text)?;
+        expect_told(0, &came, text)?;
     }
     Ok(())
 }

@@ -1,7 +1,8 @@
 //! The requests of a slice, beside a plain list of all of them.
 
-use crate::tests::tables::{Part, expect_alike, play, told};
+use crate::tests::tables::{Part, expect_alike, play};
 use draws::Draws;
+use expectations::told;
 use std::alloc::{AllocError, Global};
 use std::test::Fail;
 use xid_map::{AskKind, Asked, Issued, XidMap};

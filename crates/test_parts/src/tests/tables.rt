@@ -1,8 +1,8 @@
 //! Tables of calls, each beside the text of what it is to answer; and what draws are to come to.
 
 use draws::times;
-use std::alloc::{AllocError, Global};
-use std::fmt::Debug;
+use expectations::expect_told;
+use std::alloc::AllocError;
 use std::test::Fail;
 
 /// A part that is called.
@@ -11,26 +11,12 @@ pub(crate) trait Part<Call> {
     fn answer(&mut self, call: &Call) -> Result<String, AllocError>;
 }
 
-/// The text of an answer.
-pub(crate) fn told(alloc: Global, answer: &impl Debug) -> Result<String, AllocError> {
-    format!(in alloc; "{answer:?}")
-}
-
-/// What came of a row, which its place in the table names, is what is wanted.
-pub(crate) fn expect(row: u32, came: &str, wanted: &str) -> Result<(), Fail> {
-    if came == wanted {
-        Ok(())
-    } else {
-        Err(Fail::new(format_args!("row {row}: {came}, not {wanted}")))
-    }
-}
-
 /// Makes the calls one after another. Each is answered as its row says.
 pub(crate) fn play<Call, P: Part<Call>>(part: &mut P, rows: &[(Call, &str)]) -> Result<(), Fail> {
     let mut place = 0u32;
     for (call, wanted) in rows {
         let came = part.answer(call)?;
-        expect(place, &came, wanted)?;
+        expect_told(place, &came, wanted)?;
         place = place.saturating_add(1);
     }
     Ok(())

@@ -3,8 +3,9 @@
 mod drawn;
 mod given;
 
-use crate::tests::tables::{expect, expect_bytes, expect_so, told};
+use crate::tests::tables::{expect_bytes, expect_so};
 use drawn::Draws;
+use expectations::{expect_told, told};
 use flowmod_expand::pieces;
 use flowspace::SwitchPolicy;
 use given::{built, spelled, strips};
@@ -357,7 +358,7 @@ const SIZES: &[(u16, &[usize], &str)] = &[
 fn messages_keep_to_their_sizes(rt: HostRuntime) -> Result<(), Fail> {
     for (row, (command, counts, wanted)) in SIZES.iter().enumerate() {
         let came = made(rt.alloc(), *command, counts)?;
-        expect(row as u32, &came, wanted)?;
+        expect_told(row as u32, &came, wanted)?;
     }
     Ok(())
 }

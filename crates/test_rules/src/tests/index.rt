@@ -3,7 +3,8 @@
 ghost use Rattle.std.specs.Prelude.{All, IfOk};
 ghost use Rattle.flowspace.specs.Slices.{IsPlainSlice};
 
-use crate::tests::tables::{expect, expect_so, told};
+use crate::tests::tables::expect_so;
+use expectations::{expect_told, told};
 use flowspace::{Policy, PolicyFault, Rule, Slice, SwitchPolicy};
 use rule_index::RuleIndex;
 use samples::{packet, plain_rules, rule, slice, tcp};
@@ -55,7 +56,7 @@ fn looks_up_the_last_of_many_rules_and_its_owner(rt: HostRuntime) -> Result<(), 
     let owner = index.owner_of(&tcp(None, 2047));
     let behind = index.first(&packet(1, 0x0a00_0002, 2048));
     let came = told(alloc, &(last, owner, behind))?;
-    expect(0, &came, "(Some(2047), Some(7), None)")
+    expect_told(0, &came, "(Some(2047), Some(7), None)")
 }
 
 #[test]

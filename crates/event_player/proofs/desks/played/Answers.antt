@@ -1,4 +1,4 @@
-use Rattle.std.proofs.Common.{◌≡◌, length, Ok, Err, sym, subst}
+use Rattle.std.proofs.Common.{◌≡◌, length, Ok, sym, subst}
 use Rattle.flowspace.specs.Policies.{PolicyView}
 use Rattle.recording.specs.Recordings.{read_items}
 use Rattle.desk_words.specs.Recorded.{told_in}

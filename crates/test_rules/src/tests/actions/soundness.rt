@@ -3,9 +3,9 @@
 use super::drawn::Draws;
 use super::given::{answer_with, enqueue, output};
 use super::plain::{Grant, Kind, is_own_port, may_have, names_its_ports, rewrites};
-use crate::tests::tables::told;
 use action_check::CheckFault::Refused;
 use action_check::{CheckFault, Origin};
+use expectations::told;
 use flowspace::{PolicyFault, Rule, SwitchPolicy};
 use of10_action::{Action, Actions};
 use of10_match::Header12;
