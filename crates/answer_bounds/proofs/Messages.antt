@@ -158,7 +158,7 @@ short_shown s (message ∷ messages) short =
     (short_shown s messages (All-tail IsShort message messages short))
 
 pub few-shown : (s : Settings) (most : ℕ) (messages : List (List ℕ)) → AreFew most messages → AreFew most (shown_to s messages)
-few-shown s most messages are = record { few = subst (λ n. n ≤ most) (sym (length-map (turn_out s.swaps) messages)) are.few; short = short_shown s messages are.short }
+few-shown s most messages are = record { few = subst (λ n. n ≤ most) (sym (length-map messages (turn_out s.swaps))) are.few; short = short_shown s messages are.short }
 
 pub small-shown : (s : Settings) (most : ℕ) (messages : List (List ℕ)) → AreSmall most messages → AreSmall most (shown_to s messages)
 small-shown s most messages are = record { small = subst (λ n. n ≤ most) (sym (size_shown s messages)) are.small; short = short_shown s messages are.short }
