@@ -1,5 +1,5 @@
 -- What is answered to an item is at most one message, unless it is the end of statistics, and what is put for the switch is small. A new kind of answer is a case more of `answer_size`.
-use Rattle.std.proofs.Common.{◌≡◌, ℕ, ◌+◌, ◌-◌, ◌^◌, ◌%◌, ◌==◌, ◌&&◌, ◌≤◌, not, Bool, true, false, if◌then◌else◌, List, [], ◌∷◌, ◌++◌, map, length, take, filter, suc, append-nil, true≢false, refl, sym, subst, Option, Some, None, Ok, option_map, arith}
+use Rattle.std.proofs.Common.{◌≡◌, ℕ, ◌+◌, ◌-◌, ◌^◌, ◌%◌, ◌==◌, ◌&&◌, ◌≤◌, not, Bool, true, false, if◌then◌else◌, List, [], ◌∷◌, ◌++◌, map, length, take, filter, suc, append-nil, true≢false, refl, sym, ap, subst, Option, Some, None, Ok, option_map, arith}
 use Rattle.std.specs.List.{All}
 use Rattle.std.proofs.lemmas.Bool.{ltb-false}
 use Rattle.std.proofs.lemmas.List.{length-take}
@@ -37,12 +37,12 @@ use Rattle.slice_words.specs.Calls.{request_calls, request_for, book_calls}
 use Rattle.slice_words.specs.FlowMods.{Ground, ground_of, packet_at, sent_on, flow_mod_fault}
 use Rattle.slice_words.specs.PacketOuts.{packet_out_on, packet_out_size, sent_out, packet_out_fault}
 use Rattle.slice_words.specs.Answers.{error_for, refused, no_common_version, bad_request_length, config_told, packet_message, packet_told, message_answer, removal_told, error_told, answer}
-use Rattle.slice_words.specs.Alone.{number_it_came_with, spell_inquiry, rendered, played, answer_to, sent_for, put_for}
+use Rattle.slice_words.specs.Alone.{number_it_came_with, spell_inquiry, rendered, played, answer_to, shown_to, sent_for, put_for}
 use Rattle.of10_model.proofs.Results.{either}
 use Rattle.slice_words.proofs.AnswerKinds.{message_holds}
 use Rattle.slice_words.proofs.Forwarding.{flow_mods_numbered, rendered_sent, not_large_numbered, out_not_large}
 use Rattle.answer_bounds.specs.Bounds.{AreFew, AreSmall}
-use Rattle.answer_bounds.proofs.Messages.{IsShort, few-none, few-one, few-next, small-none, small-few, short-message, short-echo, short-request, short-table, short-config, short-error, short-features, short-status, short-packet, short-packet_out, short-removed}
+use Rattle.answer_bounds.proofs.Messages.{IsShort, few-shown, few-none, few-one, few-next, small-none, small-few, short-message, short-echo, short-request, short-table, short-config, short-error, short-features, short-status, short-packet, short-packet_out, short-removed}
 
 -- ---- what bounds an answer
 
@@ -262,8 +262,8 @@ pub sent_size : (s : Settings) (view items : List Item) → AreBounded view item
 sent_size s view [] h = few-none 0
 sent_size s view (item ∷ items) h =
     rw (count_if (speaks item) item (filter speaks items))
-    (few_or_none (speaking items) (speaks item) (answer_to s view item).to_slice (sent_for s (item ∷ view) items) (silent_lost s view item)
-    (answer_size s view (played (answer s) view) item h.0).to_slice (sent_size s (item ∷ view) items h.1))
+    (few_or_none (speaking items) (speaks item) (shown_to s (answer_to s view item).to_slice) (sent_for s (item ∷ view) items) (λ quiet. ap (shown_to s) (silent_lost s view item quiet))
+    (few-shown s 1 (answer_to s view item).to_slice (answer_size s view (played (answer s) view) item h.0).to_slice) (sent_size s (item ∷ view) items h.1))
 
 -- one item has little sent to the switch
 pub put_size : (s : Settings) (view : List Item) (item : Item) (came : List ℕ) → IsBounded view item → AreSmall 262144 (map (rendered came) (put_for s view (item ∷ [])))

@@ -1,7 +1,7 @@
 -- Few messages and small ones, and how long those are that this proxy makes.
-use Rattle.std.proofs.Common.{ℕ, suc, ◌+◌, ◌*◌, ◌≤◌, List, [], ◌∷◌, ◌++◌, length, take, drop, arith}
+use Rattle.std.proofs.Common.{◌≡◌, ℕ, suc, ◌+◌, ◌*◌, ◌≤◌, List, [], ◌∷◌, ◌++◌, map, length, take, drop, refl, sym, ap₂, subst, ◌∙◌, arith}
 use Rattle.std.specs.List.{All}
-use Rattle.std.proofs.lemmas.List.{length-append, length-take, length-drop}
+use Rattle.std.proofs.lemmas.List.{length-append, length-take, length-drop, length-map}
 use Rattle.std.proofs.lemmas.List.Elements.{All-nil, All-cons, All-head, All-tail, All-append}
 use Rattle.std.proofs.lemmas.List.Sums.{sum_by-cons}
 use Rattle.byteorder.specs.Endian.{big_bytes}
@@ -28,7 +28,11 @@ use Rattle.of10_port.specs.PortStatus.{spell_port_status}
 use Rattle.of10_port.proofs.Pieces.{length-port_bytes}
 use Rattle.of10_port.proofs.Again.{IsOf-features, IsOf-port_status}
 use Rattle.outbox.specs.Queues.{size}
-use Rattle.answer_bounds.specs.Bounds.{AreFew, AreSmall}
+use Rattle.port_turns.specs.Sent.{turn_out}
+use Rattle.port_turns.proofs.OutLengths.{out_length}
+use Rattle.slice_words.specs.Items.{Settings}
+use Rattle.slice_words.specs.Alone.{shown_to}
+use Rattle.answer_bounds.specs.Bounds.{AreShort, AreFew, AreSmall}
 
 -- ---- few messages
 
@@ -137,3 +141,24 @@ short-packet_out m fits =
 pub short-packet : (packet : PacketIn) → 18 + length packet.payload ≤ 65535 → IsShort (spell_packet_in packet)
 unfolding spell_packet_in
 short-packet packet fits = omega arith
+
+-- ---- messages with the port numbers that a slice is shown
+
+size_shown : (s : Settings) (messages : List (List ℕ)) → size (shown_to s messages) ≡ size messages
+size_shown s [] = refl
+size_shown s (message ∷ messages) =
+    sum_by-cons length (turn_out s.swaps message) (shown_to s messages)
+    ∙ ap₂ (λ (a b : ℕ). a + b) (out_length s.swaps message) (size_shown s messages)
+    ∙ sym (sum_by-cons length message messages)
+
+short_shown : (s : Settings) (messages : List (List ℕ)) → AreShort messages → AreShort (shown_to s messages)
+short_shown s [] short = All-nil IsShort
+short_shown s (message ∷ messages) short =
+    All-cons IsShort (turn_out s.swaps message) (shown_to s messages) (subst (λ n. n ≤ 65535) (sym (out_length s.swaps message)) (All-head IsShort message messages short))
+    (short_shown s messages (All-tail IsShort message messages short))
+
+pub few-shown : (s : Settings) (most : ℕ) (messages : List (List ℕ)) → AreFew most messages → AreFew most (shown_to s messages)
+few-shown s most messages are = record { few = subst (λ n. n ≤ most) (sym (length-map messages (turn_out s.swaps))) are.few; short = short_shown s messages are.short }
+
+pub small-shown : (s : Settings) (most : ℕ) (messages : List (List ℕ)) → AreSmall most messages → AreSmall most (shown_to s messages)
+small-shown s most messages are = record { small = subst (λ n. n ≤ most) (sym (size_shown s messages)) are.small; short = short_shown s messages are.short }

@@ -23,12 +23,12 @@ use Rattle.slice_words.specs.Items.{Settings, own_rules, Item, Entry, Last, is_u
 use Rattle.slice_words.specs.Pasts.{Answer, no_answer}
 use Rattle.slice_words.specs.Statistics.{collects, collected_replies, statistics_told}
 use Rattle.slice_words.specs.Calls.{request_for, request_calls, collection_calls}
-use Rattle.slice_words.specs.Alone.{answer_to, sent_for}
+use Rattle.slice_words.specs.Alone.{answer_to, shown_to, sent_for}
 use Rattle.slice_words.specs.Standing.{past_of}
 use Rattle.slice_words.proofs.Collecting.{IsWholeEntry, fit-gathered}
 use Rattle.desk_words.specs.Histories.{is_reply_to, own_entries, is_part, part_items, statistics_items}
 use Rattle.answer_bounds.specs.Bounds.{AreSmall}
-use Rattle.answer_bounds.proofs.Messages.{IsShort, few-one, small-none, small-few, short-sums}
+use Rattle.answer_bounds.proofs.Messages.{IsShort, small-shown, few-one, small-none, small-few, short-sums}
 
 -- ---- the replies to one request
 
@@ -81,7 +81,7 @@ end_replied : (s : Settings) (view : List Item) (more : Bool) (x kind : ℕ) →
 end_replied s view true x kind whole = no_items s view
 end_replied s view false x kind whole =
     record {
-      small = rw (append-nil (answer_to s view (Last x kind)).to_slice) (last_small s view x kind whole);
+      small = rw (append-nil (shown_to s (answer_to s view (Last x kind)).to_slice)) (small-shown s 524492 (answer_to s view (Last x kind)).to_slice (last_small s view x kind whole));
       whole = All-cons IsWholeEntry (Last x kind) [] tt (All-nil IsWholeEntry);
     }
 

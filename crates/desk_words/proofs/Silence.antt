@@ -22,7 +22,7 @@ use Rattle.of10_port.specs.Ports.{port_number}
 use Rattle.flowspace.specs.declared.rules.Rule.{Rule}
 use Rattle.flowspace.specs.Policies.{PolicyView}
 use Rattle.slice_words.specs.Items.{Settings, is_own_port, Share, Item, Opened as Told, Up, Down, Msg, Lost, Handed, Removed, Status, Fault, Barrier, Queues, Entry, Last, End, is_up, is_forgetting}
-use Rattle.slice_words.specs.Alone.{with_items, sent_for}
+use Rattle.slice_words.specs.Alone.{with_items, shown_to, sent_for}
 use Rattle.slice_words.specs.Laws.{is_coming, is_last_up}
 use Rattle.slice_words.proofs.Joining.{silent, last_up}
 use Rattle.desk_words.specs.declared.event.Event.{Event}
@@ -178,7 +178,7 @@ silent_items s view [] down going = (refl, down)
 silent_items s view (item ∷ items) down going =
     let first = (or_parts (is_coming item) (list_any is_coming items) going).0 in
     let rest = silent_items s (item ∷ view) items (down_still item view first down) ((or_parts (is_coming item) (list_any is_coming items) going).1) in
-    (ap₂ (λ (a b : List (List ℕ)). a ++ b) (ap (λ answer. answer.to_slice) (silent s view item down first)) rest.0, rest.1)
+    (ap₂ (λ (a b : List (List ℕ)). a ++ b) (ap (λ answer. shown_to s answer.to_slice) (silent s view item down first)) rest.0, rest.1)
 
 plain_no_up : (item : Item) → is_forgetting item ≡ false → is_coming item ≡ false
 plain_no_up Up plain = plain

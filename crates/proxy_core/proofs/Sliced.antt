@@ -13,7 +13,7 @@ use Rattle.flow_book.specs.declared.state.SliceState.{SliceState}
 use Rattle.outbox.specs.Queues.{Queue, push_all, OutboxState, QueueStands}
 use Rattle.slice_words.specs.Messages.{is_dismissing}
 use Rattle.slice_words.specs.Items.{Settings, Item, Msg, is_up}
-use Rattle.slice_words.specs.Alone.{put_for, answer_to, with_items, rendered}
+use Rattle.slice_words.specs.Alone.{put_for, answer_to, shown_to, with_items, rendered}
 use Rattle.slice_words.proofs.Dismissing.{ends}
 use Rattle.slice_side.specs.Reactions.{Sees}
 use Rattle.desk_words.specs.declared.event.Event.{Event}
@@ -201,7 +201,7 @@ hears_slot p switch sides qs slot moment message on lane new_lane x y z w opened
     (shown_msg p switch (sides slot) slot moment message opened here up) refl refl (
       heard.stands,
       subst (λ (m : List (List ℕ)). QueueStands slice_limit (push_all slice_limit (qs slot) m) w)
-          (sym (append-nil (answer_to (settings_at p slot switch.features) (sides slot).sight.view (Msg message moment)).to_slice)) (heard.to_slice slice_limit (qs slot) one.queue_stands),
+          (sym (append-nil (shown_to (settings_at p slot switch.features) (answer_to (settings_at p slot switch.features) (sides slot).sight.view (Msg message moment)).to_slice))) (heard.to_slice slice_limit (qs slot) one.queue_stands),
     )
 
 pub put_heard : (p : PolicyView) (switch : KnownSwitch) (sides : ℕ → SliceSide) (slot moment : ℕ) (message : List ℕ) → switch.phase ≡ Opened → is_slot p slot ≡ true → is_up (sides slot).sight.view ≡ true

@@ -2,11 +2,14 @@
 use Rattle.std.proofs.Common.{◌≡◌, ◌≢◌, ℕ, ◌==◌, ◌&&◌, not, Bool, true, false, if◌then◌else◌, List, [], ◌∷◌, refl, ap, ap₂, subst, sym, ◌∙◌}
 use Rattle.std.specs.Prelude.{ltb}
 use Rattle.std.proofs.lemmas.Bool.{eq-eqb, ne_eqb}
+use Rattle.of10_ctl.specs.declared.kind.TheConstants.{HELLO}
+use Rattle.of10_ctl.specs.Frames.{message_of}
 use Rattle.flowspace.specs.Policies.{PolicyView}
+use Rattle.port_turns.proofs.Stays.{stays}
 use Rattle.flow_book.specs.declared.state.SliceState.{SliceState}
 use Rattle.outbox.specs.Queues.{Queue, no_messages, push_all, OutboxState, QueueStands}
-use Rattle.slice_words.specs.Items.{Item, Up, Down, Msg, is_up}
-use Rattle.slice_words.specs.Alone.{with_items}
+use Rattle.slice_words.specs.Items.{Settings, Item, Up, Down, Msg, is_up}
+use Rattle.slice_words.specs.Alone.{with_items, sent_for}
 use Rattle.desk_words.specs.declared.event.Event.TheVariants.{SliceUp, SliceMsg, SliceDown}
 use Rattle.desk_words.specs.declared.event.Timed.{Timed}
 use Rattle.desk_words.specs.declared.phase.Phase.{Phase}
@@ -101,6 +104,10 @@ pub up_comes : (p : PolicyView) (switch : KnownSwitch) (sides : ℕ → SliceSid
 up_comes p switch sides slot moment opened here =
     up_by p switch sides (record { event = SliceUp slot; moment = moment }) slot (Up ∷ []) opened (shown_up p switch (sides slot) slot moment opened here)
 
+-- the greeting names no port
+up_sent : (s : Settings) (view : List Item) → sent_for s view (Up ∷ []) ≡ message_of HELLO 0 [] ∷ []
+up_sent s view = ap (λ (f : List ℕ). f ∷ []) (stays s.swaps (message_of HELLO 0 []) refl)
+
 pub comes_slot : (p : PolicyView) (switch : KnownSwitch) (sides : ℕ → SliceSide) (qs : ℕ → Queue) (slot moment : ℕ) (a : SliceState) (b : OutboxState) (x : SliceState) (y : OutboxState) → switch.phase ≡ Opened
     → is_slot p slot ≡ true → SlotStands p slot switch (sides slot) (qs slot) a b → Comes a b x y
     → SlotStands p slot switch (sides_after p switch sides (record { event = SliceUp slot; moment = moment }) slot) (queues_after p switch sides qs (record { event = SliceUp slot; moment = moment }) slot) x y
@@ -108,8 +115,10 @@ comes_slot p switch sides qs slot moment a b x y opened here stands comes =
     let timed : Timed = record { event = SliceUp slot; moment = moment } in
     slot_after p switch sides qs timed slot (Up ∷ []) true x y
     (shown_up p switch (sides slot) slot moment opened here) refl
-    (ap₂ (λ (a b : Bool). a && b) (eq-eqb slot slot refl) (up_comes p switch sides slot moment opened here))
-    (comes.0 (settings_at p slot switch.features) (sides slot).sight stands.state_stands, comes.1 _ (qs slot) stands.queue_stands)
+    (ap₂ (λ (a b : Bool). a && b) (eq-eqb slot slot refl) (up_comes p switch sides slot moment opened here)) (
+      comes.0 (settings_at p slot switch.features) (sides slot).sight stands.state_stands,
+      subst (λ (m : List (List ℕ)). QueueStands slice_limit (push_all slice_limit no_messages m) y) (sym (up_sent (settings_at p slot switch.features) (sides slot).sight.view)) (comes.1 _ (qs slot) stands.queue_stands),
+    )
 
 pub goes_slot : (p : PolicyView) (switch : KnownSwitch) (sides : ℕ → SliceSide) (qs : ℕ → Queue) (slot moment : ℕ) (a : SliceState) (b : OutboxState) (x : SliceState) (y : OutboxState) → switch.phase ≡ Opened
     → is_slot p slot ≡ true → SlotStands p slot switch (sides slot) (qs slot) a b → Goes a b x y

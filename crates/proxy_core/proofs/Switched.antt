@@ -199,7 +199,7 @@ ports_kept known None = refl
 ports_kept known (Some status) = by_answer status known (kept_of status known) refl
 
 pub surrounds : (p : PolicyView) (switch : KnownSwitch) (sides : ℕ → SliceSide) (qs : ℕ → Queue) (session : Session) → SessionStands p switch sides qs session → switch.phase ≡ Opened → Surrounds p switch session.policy session.ports
-surrounds p switch sides qs session s open_ = record { opened = open_; slices = s.slices; rules = s.rules; known = s.known }
+surrounds p switch sides qs session s open_ = record { opened = open_; slices = s.slices; rules = s.rules; swaps = s.swaps; known = s.known }
 
 pub all_stand : (p : PolicyView) (switch : KnownSwitch) (sides : ℕ → SliceSide) (qs : ℕ → Queue) (session : Session) → SessionStands p switch sides qs session → AllStand p switch sides session.states.items
 all_stand p switch sides qs session s slot state g = (queue_there p switch sides qs session slot state s g).2.state_stands

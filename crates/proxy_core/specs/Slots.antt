@@ -7,7 +7,7 @@ use Rattle.flowspace.specs.Policies.{SwitchView}
 use Rattle.flow_book.specs.declared.state.SliceState.{SliceState}
 use Rattle.outbox.specs.Queues.{Queue, no_messages, push_all, OutboxState, QueueStands}
 use Rattle.slice_words.specs.Items.{Settings, Sight, Item, Up, Msg}
-use Rattle.slice_words.specs.Alone.{answer_to, rendered}
+use Rattle.slice_words.specs.Alone.{answer_to, shown_to, rendered}
 use Rattle.slice_words.specs.Standing.{SliceStands}
 use Rattle.slice_side.specs.Reactions.{with_item, Sees}
 use Rattle.switch_side.specs.Changes.{SameState}
@@ -39,7 +39,7 @@ Comes old_state old new_state new = IsSeen Up old_state new_state × HasOnly (me
 -- a message of a slice that is up was answered as follows from what the slice sees
 pub record Heard (s : Settings) (sight : Sight) (item : Item) (on : Bool) (old lane : OutboxState) (new_state : SliceState) (new new_lane : OutboxState) : Type 0 where
   pub stands : SliceStands s (with_item item sight) new_state
-  pub to_slice : HasMore (answer_to s sight.view item).to_slice old new
+  pub to_slice : HasMore (shown_to s (answer_to s sight.view item).to_slice) old new
   pub to_switch : HasMore (map (rendered sight.came) (answer_to s sight.view item).to_switch) lane new_lane
   pub goes_on : on ≡ not (answer_to s sight.view item).dismissed
 

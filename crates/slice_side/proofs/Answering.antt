@@ -1,5 +1,5 @@
 -- What follows from a message by what was read of it is what follows from the item.
-use Rattle.std.proofs.Common.{◌≡◌, ℕ, Bool, true, if◌then◌else◌, List, refl, sym, ap, ◌∙◌, subst, true≢false, false, Ok, Err}
+use Rattle.std.proofs.Common.{◌≡◌, ℕ, Bool, true, if◌then◌else◌, List, map, refl, sym, ap, ap₂, ◌∙◌, subst, true≢false, false, Ok, Err}
 use Rattle.of10_port.specs.declared.features.Features.{Features}
 use Rattle.of10_message.specs.declared.controller.FromController.{FromController}
 use Rattle.of10_message.specs.declared.controller.FromController.TheVariants as said
@@ -7,6 +7,7 @@ use Rattle.of10_message.specs.Controller.{read_controller}
 use Rattle.flowspace.specs.Policies.{SwitchView}
 use Rattle.flowspace.specs.Swaps.{Pairs}
 use Rattle.port_turns.specs.Turned.{exchanged}
+use Rattle.port_turns.specs.Sent.{turn_out}
 use Rattle.port_turns.specs.Readings.{read_turned, turned_read}
 use Rattle.port_turns.proofs.Same.{read_turned_is}
 use Rattle.port_view.specs.SlicePorts.{ports_of_slice, features_with}
@@ -18,7 +19,7 @@ use Rattle.slice_words.specs.Answers.{unread_answer, rated_answer, read_answer, 
 use Rattle.slice_words.specs.Alone.{answer_to}
 use Rattle.slice_words.specs.Standing.{SliceStands, past_of}
 use Rattle.slice_side.specs.declared.reaction.Reaction.{Reaction}
-use Rattle.slice_side.specs.Reactions.{Sees, Shown, Follows, IsReaction, physical_said}
+use Rattle.slice_side.specs.Reactions.{Sees, Shown, Follows, IsChange, IsAnswered, IsReaction, physical_said}
 
 -- what the state and the switch say is what the slice saw
 pub shown : (s : Settings) (sight : Sight) (state : SliceState) (policy : SwitchView) (known : List (List ℕ)) (features : Features) (slot : ℕ)
@@ -62,7 +63,7 @@ abbrev pub answer_read : Settings → List Item → ℕ → List ℕ → Reading
 answer_read s view moment message read = elim read [ Err fault ↦ unread_answer fault message | Ok asked ↦ read_answer s view (past_of s view) moment asked message ]
 
 pub reaction_of : (s : Settings) (sight : Sight) (message : List ℕ) (moment : ℕ) (r : Reaction) (read : Reading) → is_up sight.view ≡ true → message_read s message ≡ read
-    → Follows s sight message read (answer_read s sight.view moment message read) moment r → IsReaction s sight (Msg message moment) r
+    → Follows s sight message read (answer_read s sight.view moment message read) moment r → IsAnswered s sight (Msg message moment) r
 reaction_of s sight message moment r read up is follows =
     let same : answer_read s sight.view moment message read ≡ answer_to s sight.view (Msg message moment) =
     ap (answer_read s sight.view moment message) (sym is) ∙ ap (λ (b : Bool). if b then message_answer s sight.view (past_of s sight.view) moment message else no_answer) (sym up) in
@@ -86,3 +87,14 @@ asked_answer s view past moment message said.FeaturesRequest is = absurd (true�
 asked_answer s view past moment message said.GetConfigRequest is = absurd (true≢false (sym is))
 asked_answer s view past moment message (said.SetConfig config) is = absurd (true≢false (sym is))
 asked_answer s view past moment message said.PortMod is = absurd (true≢false (sym is))
+
+-- with the port numbers that the slice is shown, an answer is what follows
+pub shown_reaction : (s : Settings) (sight : Sight) (item : Item) (pairs : Pairs) (answered shown : Reaction) → s.swaps ≡ pairs → IsAnswered s sight item answered
+    → shown.to_slice.items ≡ map (turn_out pairs) answered.to_slice.items → shown.to_switch.items ≡ answered.to_switch.items → shown.close ≡ answered.close → shown.change ≡ answered.change
+    → IsReaction s sight item shown
+shown_reaction s sight item pairs answered shown same is to_slice to_switch close change = record {
+  to_slice = to_slice ∙ ap₂ (λ (own : Pairs) (messages : List (List ℕ)). map (turn_out own) messages) (sym same) is.to_slice;
+  to_switch = to_switch ∙ is.to_switch;
+  close = close ∙ is.close;
+  change = subst (IsChange s sight item) (sym change) is.change;
+}

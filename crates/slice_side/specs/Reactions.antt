@@ -25,7 +25,7 @@ use Rattle.slice_words.specs.Items.{Settings, message_read, Sight, Item, Msg, is
 use Rattle.slice_words.specs.Pasts.{Outgoing, Answer, is_any}
 use Rattle.slice_words.specs.Buffers.{HeldPacket, is_named, held_packets, has_number}
 use Rattle.slice_words.specs.FlowMods.{Ground}
-use Rattle.slice_words.specs.Alone.{answer_to, rendered}
+use Rattle.slice_words.specs.Alone.{answer_to, shown_to, rendered}
 use Rattle.slice_words.specs.Standing.{past_of}
 use Rattle.slice_side.specs.declared.reaction.Reaction.{Reaction}
 use Rattle.slice_side.specs.declared.change.Change.{Change}
@@ -151,9 +151,16 @@ pub record Follows (s : Settings) (sight : Sight) (message : List ℕ) (read : R
   pub close : r.close ≡ a.dismissed
   pub change : IsChangeFor s.patterns (held_packets (past_of s sight.view)) message read a moment r.change
 
--- what is answered to an item is what follows from it for the slice
-pub record IsReaction (s : Settings) (sight : Sight) (item : Item) (r : Reaction) : Type 0 where
+-- what is answered to an item, where messages to the slice have the switch's own port numbers still
+pub record IsAnswered (s : Settings) (sight : Sight) (item : Item) (r : Reaction) : Type 0 where
   pub to_slice : r.to_slice.items ≡ (answer_to s sight.view item).to_slice
+  pub to_switch : r.to_switch.items ≡ map (rendered sight.came) (answer_to s sight.view item).to_switch
+  pub close : r.close ≡ (answer_to s sight.view item).dismissed
+  pub change : IsChange s sight item r.change
+
+-- what follows from an item is its answer, with the port numbers that the slice is shown
+pub record IsReaction (s : Settings) (sight : Sight) (item : Item) (r : Reaction) : Type 0 where
+  pub to_slice : r.to_slice.items ≡ shown_to s (answer_to s sight.view item).to_slice
   pub to_switch : r.to_switch.items ≡ map (rendered sight.came) (answer_to s sight.view item).to_switch
   pub close : r.close ≡ (answer_to s sight.view item).dismissed
   pub change : IsChange s sight item r.change

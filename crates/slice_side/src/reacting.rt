@@ -4,7 +4,7 @@ ghost use Rattle.port_turns.specs.Readings.{read_turned};
 ghost use Rattle.slice_words.specs.Messages.{asks_switch};
 ghost use Rattle.slice_words.specs.Items.{Settings, Sight, Msg};
 ghost use Rattle.slice_words.specs.Standing.{SliceStands};
-ghost use Rattle.slice_side.specs.Reactions.{Sees, IsReaction, IsSoundChange};
+ghost use Rattle.slice_side.specs.Reactions.{Sees, IsAnswered, IsReaction, IsSoundChange};
 ghost use Rattle.slice_side.specs.Checking.{AreSentOn};
 
 use crate::around::Around;
@@ -17,6 +17,7 @@ use flowspace::SwitchPolicy;
 use of10_ctl::Frame;
 use of10_message::{FromController, read_controller};
 use of10_port::Features;
+use port_turns::turn_each_out;
 use port_view::PortView;
 use std::alloc::{AllocError, Global};
 
@@ -34,10 +35,34 @@ fn asks_switch(message: &FromController<'_>) -> bool
     )
 }
 
+/// What is answered to a message, with the switch's own port numbers.
+fn answer(
+    alloc: Global,
+    around: &Around<'_>,
+    frame: &Frame,
+    moment: u64,
+) -> Result<Reaction, AllocError>
+    ensures answer { (s : Settings) (sight : Sight) → SliceStands s sight around.now.state.now → Sees s sight.view around.now.policy.now around.now.ports.now around.now.features.now around.now.slot → IfOk result (IsAnswered s sight (Msg frame.now moment)) }
+    ensures sent { IfOk result (λ r. AreSentOn around.now.policy.now.rules around.now.slot around.now.ports.now around.now.state.now (read_turned (pairs_of around.now.policy.now.swaps around.now.slot) frame.now) r.to_switch.items) }
+    ensures sound { IfOk result (λ r. IsSoundChange r.change) }
+{
+    match read_controller(frame) {
+        Err(fault) => unread(alloc, fault, frame, moment),
+        Ok(message) => {
+            if asks_switch(&message) {
+                question(alloc, around, &message, frame, moment)
+            } else {
+                local(alloc, around, &message, frame, moment)
+            }
+        }
+    }
+}
+
 /// What follows from a message of the controller of the slice at the slot, which came at the moment. It
 /// changes nothing: `reserve` makes the room for the change, and `apply` makes the change. `features` are
-/// those with which the switch told what it is. What is sent on is told of every state; that it is the answer,
-/// of a state that stands for what the slice sees.
+/// those with which the switch said what it is. The slice's messages name ports by the slice's own numbers, and
+/// so do those that it is sent. What is sent on is known of every state; that it is the answer, of a state that
+/// stands for what the slice sees.
 pub fn react(
     alloc: Global,
     policy: &SwitchPolicy,
@@ -59,14 +84,7 @@ pub fn react(
         slot,
         state,
     };
-    match read_controller(frame) {
-        Err(fault) => unread(alloc, fault, frame, moment),
-        Ok(message) => {
-            if asks_switch(&message) {
-                question(alloc, &around, &message, frame, moment)
-            } else {
-                local(alloc, &around, &message, frame, moment)
-            }
-        }
-    }
+    let mut reaction = answer(alloc, &around, frame, moment)?;
+    turn_each_out(alloc, policy, slot, &mut reaction.to_slice)?;
+    Ok(reaction)
 }

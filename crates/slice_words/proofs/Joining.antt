@@ -1,15 +1,30 @@
 -- How answers join, and when there are none.
-use Rattle.std.proofs.Common.{◌≡◌, Bool, true, false, List, [], ◌∷◌, refl, sym, ◌∙◌, append_assoc, append-nil, true≢false, if◌then◌else◌}
+use Rattle.std.proofs.Common.{◌≡◌, ℕ, Bool, true, false, List, [], ◌∷◌, ◌++◌, map, refl, sym, ap, ◌∙◌, append_assoc, append-nil, true≢false, if◌then◌else◌}
 use Rattle.std.specs.List.{filter}
+use Rattle.std.proofs.lemmas.List.{map-append}
+use Rattle.flowspace.specs.Swaps.{Pairs}
+use Rattle.port_turns.specs.Sent.{turn_out}
+use Rattle.port_turns.proofs.Stays.{none_out}
 use Rattle.slice_words.specs.Items.{Settings, Item, Opened, Up, Down, Msg, Lost, Handed, Removed, Status, Fault, Barrier, Queues, Entry, Last, End, is_up, is_forgetting}
 use Rattle.slice_words.specs.Messages.{is_dismissing}
 use Rattle.slice_words.specs.Pasts.{Answer, no_answer}
-use Rattle.slice_words.specs.Alone.{answer_to, alone, sent_for}
+use Rattle.slice_words.specs.Alone.{answer_to, shown_to, alone, sent_for, answers_for}
 use Rattle.slice_words.specs.Laws.{AreJoined, is_coming, IsSilentWhileDown, is_last_up, IsUpByTheLast}
 
 pub joined : (s : Settings) (view items : List Item) → AreJoined s view items
 joined s view [] = sym (append-nil (alone s view))
-joined s view (item ∷ items) = joined s (item ∷ view) items ∙ append_assoc (alone s view) (answer_to s view item).to_slice (sent_for s (item ∷ view) items)
+joined s view (item ∷ items) = joined s (item ∷ view) items ∙ append_assoc (alone s view) (shown_to s (answer_to s view item).to_slice) (sent_for s (item ∷ view) items)
+
+-- what is sent is what is answered, with the port numbers that the slice is shown
+pub sent_shown : (s : Settings) (view items : List Item) → sent_for s view items ≡ shown_to s (answers_for s view items)
+sent_shown s view [] = refl
+sent_shown s view (item ∷ items) =
+    ap (λ (later : List (List ℕ)). shown_to s (answer_to s view item).to_slice ++ later) (sent_shown s (item ∷ view) items)
+    ∙ sym (map-append (turn_out s.swaps) (answer_to s view item).to_slice (answers_for s (item ∷ view) items))
+
+-- without swaps it is what is answered
+pub shown_plain : (s : Settings) (messages : List (List ℕ)) → s.swaps ≡ [] → shown_to s messages ≡ messages
+shown_plain s messages none = ap (λ (pairs : Pairs). map (turn_out pairs) messages) none ∙ none_out [] refl messages
 
 -- the rest is not asked for where the slice isn't up
 unasked : (up : Bool) (a : Answer) → up ≡ false → (if up then a else no_answer) ≡ no_answer

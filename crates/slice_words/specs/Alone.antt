@@ -1,5 +1,5 @@
 -- What a slice is sent by a proxy that serves it alone: the answers to the items of its view, one after another (this proxy's own rule).
-use Rattle.std.specs.Prelude.{ℕ, List, [], ◌∷◌, ◌++◌, get_or, reverse, Some, None}
+use Rattle.std.specs.Prelude.{ℕ, List, [], ◌∷◌, ◌++◌, map, get_or, reverse, Some, None}
 use Rattle.of10_ctl.specs.declared.kind.TheConstants.{BARRIER_REQUEST}
 use Rattle.of10_ctl.specs.Frames.{message_of}
 use Rattle.of10_message.specs.Queues.{spell_queues_request}
@@ -7,6 +7,7 @@ use Rattle.of10_stats.specs.Requests.{spell_request}
 use Rattle.of10_flow.specs.FlowMods.{spell_flow_mod}
 use Rattle.of10_flow.specs.PacketOuts.{spell_packet_out}
 use Rattle.of10_flow.specs.declared.protocol.TheConstants.{NO_BUFFER}
+use Rattle.port_turns.specs.Sent.{turn_out}
 use Rattle.slice_words.specs.Items.{Settings, Item}
 use Rattle.slice_words.specs.Pasts.{Inquiry, ForStatistics, ForBarrier, ForQueues, Outgoing, Modifies, SendsOut, Asks, Answer, Past}
 use Rattle.slice_words.specs.Answers.{answer}
@@ -24,10 +25,14 @@ played answering (item ∷ view) = record { item = item; answer = answering view
 abbrev pub answer_to : Settings → List Item → Item → Answer
 answer_to s view item = answer s view (played (answer s) view) item
 
+-- messages as a slice is sent them: with the port numbers that it is shown
+abbrev pub shown_to : Settings → List (List ℕ) → List (List ℕ)
+shown_to s messages = map (turn_out s.swaps) messages
+
 -- all that a slice is sent over a view, the oldest first
 abbrev pub alone : Settings → List Item → List (List ℕ)
 alone s [] = []
-alone s (item ∷ view) = alone s view ++ (answer_to s view item).to_slice
+alone s (item ∷ view) = alone s view ++ shown_to s (answer_to s view item).to_slice
 
 -- a view with items that come one after another
 abbrev pub with_items : List Item → List Item → List Item
@@ -37,7 +42,12 @@ with_items (item ∷ items) view = with_items items (item ∷ view)
 -- what a slice is sent for items that come one after another
 abbrev pub sent_for : Settings → List Item → List Item → List (List ℕ)
 sent_for s view [] = []
-sent_for s view (item ∷ items) = (answer_to s view item).to_slice ++ sent_for s (item ∷ view) items
+sent_for s view (item ∷ items) = shown_to s (answer_to s view item).to_slice ++ sent_for s (item ∷ view) items
+
+-- the same with the port numbers of the switch
+abbrev pub answers_for : Settings → List Item → List Item → List (List ℕ)
+answers_for s view [] = []
+answers_for s view (item ∷ items) = (answer_to s view item).to_slice ++ answers_for s (item ∷ view) items
 
 -- what the switch is sent for them
 abbrev pub put_for : Settings → List Item → List Item → List Outgoing

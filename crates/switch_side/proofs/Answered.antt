@@ -18,7 +18,7 @@ use Rattle.desk_words.specs.Histories.{is_slot, settings_at, items_of, number_to
 use Rattle.switch_side.specs.declared.change.Change.{Change}
 use Rattle.switch_side.specs.declared.dispatch.Dispatch.{Dispatch}
 use Rattle.switch_side.specs.Changes.{SlotChanges}
-use Rattle.switch_side.specs.Dispatches.{Surrounds, AllStand, AllNumbered, sent_to_all, told_at, AreChanges, IsDispatch}
+use Rattle.switch_side.specs.Dispatches.{Surrounds, AllStand, AllNumbered, answered_to_all, told_at, AreChanges, IsAnswered}
 use Rattle.switch_side.specs.Carrying.{Carried, carried, Turn, turn_told, turn_changes, carried_for, message_told, message_changes}
 use Rattle.switch_side.proofs.MessageTypes.{is_for_one, number_of_said, items_of_said}
 use Rattle.switch_side.proofs.Standing.{said_stands}
@@ -30,7 +30,7 @@ use Rattle.switch_side.proofs.Turns.{called_at, removed_within, removals_follow,
 
 -- messages and changes that are those of the event
 abbrev Follow : PolicyView → KnownSwitch → (ℕ → SliceSide) → ℕ → List ℕ → List (ℕ × List ℕ) → List (ℕ × Change) → Type 0
-Follow p switch sides moment message told listed = (told ≡ sent_to_all p switch sides (told_at moment message) 0 p.slices) × AreChanges p switch sides moment message listed
+Follow p switch sides moment message told listed = (told ≡ answered_to_all p switch sides (told_at moment message) 0 p.slices) × AreChanges p switch sides moment message listed
 
 module _ (p : PolicyView) (switch : KnownSwitch) (sides : ℕ → SliceSide) (moment : ℕ) (message : List ℕ) (states : List SliceState)
     (opened : switch.phase ≡ Opened) (same : length states ≡ length p.slices) (stand : AllStand p switch sides states) (numbered : AllNumbered p switch sides) where
@@ -81,7 +81,7 @@ module _ (p : PolicyView) (switch : KnownSwitch) (sides : ℕ → SliceSide) (mo
 pub dispatched : (p : PolicyView) (switch : KnownSwitch) (sides : ℕ → SliceSide) (moment : ℕ) (policy : SwitchView) (ports : List (List ℕ)) (states : List SliceState) (message : List ℕ) (d : Dispatch)
     → length states ≡ length policy.slices → IsSwitchPolicy policy.slices policy.rules → IfOk (read_switch message) IsSaid
     → Surrounds p switch policy ports → AllStand p switch sides states → AllNumbered p switch sides
-    → carried d ≡ carried_for (called_at p switch sides) policy.rules ports states message → IsDispatch p switch sides moment message d
+    → carried d ≡ carried_for (called_at p switch sides) policy.rules ports states message → IsAnswered p switch sides moment message d
 dispatched p switch sides moment policy ports states message d same valid right around stand numbered is =
     let here : IsSwitchPolicy policy.slices (rules_of p switch.features) = subst (λ (rules : List Rule). IsSwitchPolicy policy.slices rules) around.rules valid in
     let follow = by_said p switch sides moment message states around.opened (same ∙ ap length around.slices) stand numbered policy.slices (read_switch message) here refl right in

@@ -16,3 +16,4 @@ pub mod Sharing
 pub mod Shares
 pub mod Holding
 pub mod Giving
+pub mod Showing

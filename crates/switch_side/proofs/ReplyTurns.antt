@@ -22,7 +22,7 @@ use Rattle.flow_book.specs.declared.state.SliceState.{SliceState}
 use Rattle.slice_words.specs.Items.{Settings, lone_rules, is_own_port, Sight, Item, Barrier, Queues, Entry, Last, is_up}
 use Rattle.slice_words.specs.Pasts.{is_any}
 use Rattle.slice_words.specs.Statistics.{collects, collected_replies, barrier_told, queues_told}
-use Rattle.slice_words.specs.Alone.{answer_to, sent_for}
+use Rattle.slice_words.specs.Alone.{answer_to, answers_for}
 use Rattle.slice_words.specs.Calls.{request_for, request_calls, collection_calls}
 use Rattle.slice_words.specs.Standing.{SliceStands, past_of}
 use Rattle.slice_words.proofs.Forgetting.{found_up}
@@ -168,7 +168,7 @@ module _ (s : Settings) (sight : Sight) (x : ℕ) where
         (stands_on s sight (ended s x sent entries sight.view) state state (ended_rest s x sent entries sight.view) (same_state state) stands (rw (closed_requests s x sent entries sight.view closed) stands.requests)
         (rw (closed_collections s x sent entries sight.view closed) stands.collections) (rw (entries_book s x sent entries sight.view) stands.book))
 
-    closed_told : (more : Bool) → is_open sent (request_for s x calls) collected ≡ false → sent_for s sight.view (shown more) ≡ []
+    closed_told : (more : Bool) → is_open sent (request_for s x calls) collected ≡ false → answers_for s sight.view (shown more) ≡ []
     closed_told true closed = entries_sent s x sent entries sight.view []
     closed_told false closed = entries_sent s x sent entries sight.view (Last x sent ∷ []) ∙ ap (λ (messages : List (List ℕ)). messages ++ []) (closed_sent s x sent entries sight.view closed)
 

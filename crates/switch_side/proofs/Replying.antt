@@ -14,7 +14,7 @@ use Rattle.stats_filter.specs.Keeping.{entries_in}
 use Rattle.slice_words.specs.Items.{Settings, Item, Barrier, Queues, Entry, Last, is_up}
 use Rattle.slice_words.specs.Pasts.{Answer, is_any, told, no_answer}
 use Rattle.slice_words.specs.Statistics.{collects, entry_call, entry_kept, finished, collected_replies, statistics_told}
-use Rattle.slice_words.specs.Alone.{answer_to, with_items, sent_for}
+use Rattle.slice_words.specs.Alone.{answer_to, with_items, answers_for}
 use Rattle.slice_words.specs.Calls.{request_for, reply_marks, request_calls, collection_calls, book_calls}
 use Rattle.slice_words.specs.Standing.{past_of}
 use Rattle.slice_words.proofs.Forgetting.{found_up}
@@ -79,10 +79,10 @@ module _ (s : Settings) (x sent : ℕ) where
   entry_silent true view entry is = rw is refl
   entry_silent false view entry is = rw is refl
 
-  pub entries_sent : (entries : List (List ℕ)) (view behind : List Item) → sent_for s view (map (Entry x sent) entries ++ behind) ≡ sent_for s (with_entries entries view) behind
+  pub entries_sent : (entries : List (List ℕ)) (view behind : List Item) → answers_for s view (map (Entry x sent) entries ++ behind) ≡ answers_for s (with_entries entries view) behind
   entries_sent [] view behind = refl
   entries_sent (entry ∷ later) view behind =
-      ap (λ (first : List (List ℕ)). first ++ sent_for s (Entry x sent entry ∷ view) (map (Entry x sent) later ++ behind)) (entry_silent (is_up view) view entry refl)
+      ap (λ (first : List (List ℕ)). first ++ answers_for s (Entry x sent entry ∷ view) (map (Entry x sent) later ++ behind)) (entry_silent (is_up view) view entry refl)
       ∙ entries_sent later (Entry x sent entry ∷ view) behind
 
   pub entries_then : (entries : List (List ℕ)) (view behind : List Item) → with_items (map (Entry x sent) entries ++ behind) view ≡ with_items behind (with_entries entries view)

@@ -17,8 +17,7 @@ use Rattle.desk_words.specs.declared.event.Timed.{Timed}
 use Rattle.desk_words.specs.declared.phase.Phase.TheVariants.{Opened}
 use Rattle.desk_words.specs.Openings.{status_said, kept_beside, rules_of, KnownSwitch}
 use Rattle.desk_words.specs.Histories.{settings_at, SliceSide}
-use Rattle.desk_words.specs.Sent.{sent_with}
-use Rattle.switch_side.specs.Dispatches.{addressed, sent_to_all, told_at, AllStand, said_from}
+use Rattle.switch_side.specs.Dispatches.{answered_with, addressed, answered_to_all, told_at, AllStand, said_from}
 use Rattle.switch_side.specs.Audiences.{audience_of}
 use Rattle.switch_side.specs.Carrying.{packet_for, port_told}
 use Rattle.switch_side.proofs.MessageTypes.{is_for_one}
@@ -54,8 +53,8 @@ said_told count rules known states said = said_status rules states (kept_beside 
 
 all_sent : (p : PolicyView) (switch : KnownSwitch) (sides : ℕ → SliceSide) (timed : Timed) (said : Say) (slot : ℕ) (slices : List Slice) (states : List SliceState)
     → length states ≡ length slices
-    → ((i k : ℕ) (state : SliceState) → slot + i ≡ k → slice_get states i ≡ Some state → said k state ≡ sent_with p k switch (sides k) timed)
-    → said_from said slot states ≡ sent_to_all p switch sides timed slot slices
+    → ((i k : ℕ) (state : SliceState) → slot + i ≡ k → slice_get states i ≡ Some state → said k state ≡ answered_with p k switch (sides k) timed)
+    → said_from said slot states ≡ answered_to_all p switch sides timed slot slices
 all_sent p switch sides timed said slot [] [] same each = refl
 all_sent p switch sides timed said slot (slice ∷ slices) (state ∷ states) same each =
     ap₂ (λ (now later : List (ℕ × List ℕ)). now ++ later) (ap (addressed slot) (each 0 slot state (omega arith) refl))
@@ -78,7 +77,7 @@ has_item (x ∷ xs) (suc i) lt = has_item xs i (omega (arith, lt))
 one_sent : (p : PolicyView) (switch : KnownSwitch) (sides : ℕ → SliceSide) (moment : ℕ) (message : List ℕ) (said : Result SwitchMessage Unread) (states : List SliceState)
     → switch.phase ≡ Opened → length states ≡ length p.slices → AllStand p switch sides states → read_switch message ≡ said → is_for_one said ≡ false
     → (slot k : ℕ) (state : SliceState) → 0 + slot ≡ k → slice_get states slot ≡ Some state
-    → say (length p.slices) (rules_of p switch.features) switch.known said k state ≡ sent_with p k switch (sides k) (told_at moment message)
+    → say (length p.slices) (rules_of p switch.features) switch.known said k state ≡ answered_with p k switch (sides k) (told_at moment message)
 one_sent p switch sides moment message said states opened same stand is all slot k state at found =
     let lt : k < length p.slices = omega (arith, slice_get_within states slot state found, same, at) in
     let slice = has_item p.slices k lt in
@@ -89,7 +88,7 @@ one_sent p switch sides moment message said states opened same stand is all slot
 -- what the states are told is what the slices are sent, for a message that is for all
 pub told_sent : (p : PolicyView) (switch : KnownSwitch) (sides : ℕ → SliceSide) (moment : ℕ) (message : List ℕ) (said : Result SwitchMessage Unread) (states : List SliceState)
     → switch.phase ≡ Opened → length states ≡ length p.slices → AllStand p switch sides states → read_switch message ≡ said → is_for_one said ≡ false
-    → told_among (length states) (rules_of p switch.features) switch.known states said ≡ sent_to_all p switch sides (told_at moment message) 0 p.slices
+    → told_among (length states) (rules_of p switch.features) switch.known states said ≡ answered_to_all p switch sides (told_at moment message) 0 p.slices
 told_sent p switch sides moment message said states opened same stand is all =
     ap (λ (count : ℕ). told_among count (rules_of p switch.features) switch.known states said) same
     ∙ sym (said_told (length p.slices) (rules_of p switch.features) switch.known states said)

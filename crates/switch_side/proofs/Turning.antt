@@ -4,15 +4,14 @@ use Rattle.std.proofs.lemmas.Bool.{cases_eq, eq-eqb, ne_eqb, ltb-false, lt-ltb}
 use Rattle.flowspace.specs.declared.slices.Slice.{Slice}
 use Rattle.flowspace.specs.Policies.{PolicyView}
 use Rattle.slice_words.specs.Items.{Settings, Sight, Item}
-use Rattle.slice_words.specs.Alone.{sent_for}
+use Rattle.slice_words.specs.Alone.{answers_for}
 use Rattle.desk_words.specs.declared.event.Timed.{Timed}
 use Rattle.desk_words.specs.Openings.{KnownSwitch}
 use Rattle.desk_words.specs.Histories.{is_slot, settings_at, SliceSide, items_of, number_told}
 use Rattle.desk_words.specs.declared.event.Event.TheVariants.{SwitchMsg}
-use Rattle.desk_words.specs.Sent.{sent_with}
 use Rattle.switch_side.specs.declared.change.Change.{Change}
 use Rattle.switch_side.specs.Changes.{of_slot, IsChangeOfItems, SlotChanges}
-use Rattle.switch_side.specs.Dispatches.{addressed, sent_to_all, told_at, AreChanges}
+use Rattle.switch_side.specs.Dispatches.{answered_with, addressed, answered_to_all, told_at, AreChanges}
 use Rattle.switch_side.specs.Carrying.{Turn, turn_told, turn_changes}
 use Rattle.switch_side.proofs.MessageTypes.{items_none}
 
@@ -36,16 +35,16 @@ IsWithin p (Some turn) = turn.slot < length p.slices
 
 module _ (p : PolicyView) (switch : KnownSwitch) (sides : ℕ → SliceSide) (timed : Timed) where
   abbrev to : ℕ → List (List ℕ)
-  to k = sent_with p k switch (sides k) timed
+  to k = answered_with p k switch (sides k) timed
 
-  none_sent : (slot : ℕ) (slices : List Slice) → ((k : ℕ) → slot ≤ k → k < slot + length slices → to k ≡ []) → sent_to_all p switch sides timed slot slices ≡ []
+  none_sent : (slot : ℕ) (slices : List Slice) → ((k : ℕ) → slot ≤ k → k < slot + length slices → to k ≡ []) → answered_to_all p switch sides timed slot slices ≡ []
   none_sent slot [] each = refl
   none_sent slot (slice ∷ others) each =
       ap₂ (λ (here later : List (ℕ × List ℕ)). here ++ later) (ap (addressed slot) (each slot (omega arith) (omega arith)))
       (none_sent (slot + 1) others (λ k from under. each k (omega (arith, from)) (omega (arith, under))))
 
   one_sent : (one : ℕ) (messages : List (List ℕ)) (slot : ℕ) (slices : List Slice) → slot ≤ one → one < slot + length slices → to one ≡ messages
-      → ((k : ℕ) → k < slot + length slices → (one == k) ≡ false → to k ≡ []) → sent_to_all p switch sides timed slot slices ≡ addressed one messages
+      → ((k : ℕ) → k < slot + length slices → (one == k) ≡ false → to k ≡ []) → answered_to_all p switch sides timed slot slices ≡ addressed one messages
   one_sent one messages slot [] from under own others = absurd (omega (arith, from, under))
   one_sent one messages slot (slice ∷ later) from under own others =
       elim (cases_eq slot one) [
@@ -55,7 +54,7 @@ module _ (p : PolicyView) (switch : KnownSwitch) (sides : ℕ → SliceSide) (ti
             (none_sent (slot + 1) later (λ k past under_k. others k (omega (arith, under_k)) (ne_eqb one k (λ is. omega (arith, is, past, same)))))
             ∙ append-nil (addressed one messages)
         | inr other ↦
-            ap (λ (here : List (List ℕ)). addressed slot here ++ sent_to_all p switch sides timed (slot + 1) later) (others slot (omega arith) (ne_eqb one slot (λ is. other (sym is))))
+            ap (λ (here : List (List ℕ)). addressed slot here ++ answered_to_all p switch sides timed (slot + 1) later) (others slot (omega arith) (ne_eqb one slot (λ is. other (sym is))))
             ∙ one_sent one messages (slot + 1) later (omega (arith, from, other)) (omega (arith, under)) own (λ k under_k isnt. others k (omega (arith, under_k)) isnt)
       ]
 
@@ -69,8 +68,8 @@ changes_by false slot k change isnt = rw isnt refl
 
 -- what follows from items for a slice: nothing, or this turn
 abbrev pub FollowsFrom : Settings → Sight → List Item → Option Turn → Type 0
-FollowsFrom s sight items None = (sent_for s sight.view items ≡ []) × SlotChanges s None sight items []
-FollowsFrom s sight items (Some turn) = (sent_for s sight.view items ≡ turn.messages) × IsChangeOfItems s None sight items turn.change
+FollowsFrom s sight items None = (answers_for s sight.view items ≡ []) × SlotChanges s None sight items []
+FollowsFrom s sight items (Some turn) = (answers_for s sight.view items ≡ turn.messages) × IsChangeOfItems s None sight items turn.change
 
 pub nothing_follows : (s : Settings) (sight : Sight) → FollowsFrom s sight [] None
 nothing_follows s sight = (refl, λ state stands. stands)
@@ -101,7 +100,7 @@ module _ (p : PolicyView) (switch : KnownSwitch) (sides : ℕ → SliceSide) (mo
   other_follows : (turn : Turn) (slot : ℕ) → (turn.slot == slot) ≡ false → Follows slot (turn_at slot (Some turn)) → Follows slot None
   other_follows turn slot isnt follows = subst (Follows slot) (turn_at-other slot turn isnt) follows
 
-  pub sent_turn : (turn : Option Turn) → IsWithin p turn → EachFollows turn → turn_told turn ≡ sent_to_all p switch sides (told_at moment message) 0 p.slices
+  pub sent_turn : (turn : Option Turn) → IsWithin p turn → EachFollows turn → turn_told turn ≡ answered_to_all p switch sides (told_at moment message) 0 p.slices
   sent_turn None within each = sym (none_sent p switch sides (told_at moment message) 0 p.slices (λ k from under. (each k (lt-ltb k (length p.slices) (omega (arith, under)))).0))
   sent_turn (Some turn) within each =
       sym (one_sent p switch sides (told_at moment message) turn.slot turn.messages 0 p.slices (omega arith) (omega (arith, within))

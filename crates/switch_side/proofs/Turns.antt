@@ -26,7 +26,7 @@ use Rattle.flow_book.specs.declared.booked.Booked.{Booked}
 use Rattle.flow_book.specs.Books.{booking}
 use Rattle.flow_book.specs.declared.state.SliceState.{SliceState}
 use Rattle.slice_words.specs.Items.{Settings, settings_of, Sight, Item, Removed, Fault, is_up}
-use Rattle.slice_words.specs.Alone.{sent_for}
+use Rattle.slice_words.specs.Alone.{answers_for}
 use Rattle.slice_words.specs.Answers.{removal_told, error_told}
 use Rattle.slice_words.specs.Calls.{request_for, request_calls, collection_calls, book_calls}
 use Rattle.slice_words.specs.Standing.{past_of}
@@ -86,12 +86,12 @@ told_again None entry = refl
 told_again (Some booked) entry = told_where booked.asked entry (spell_flow_removed (record entry { xid = 0 }))
 
 removal_sent : (s : Settings) (view : List Item) (entry : FlowRemoved) (up : Bool) → is_up view ≡ up
-    → sent_for s view (Removed (record entry { xid = 0 }) ∷ []) ≡ while_up up (removal_told (booking entry.pattern entry.priority (book_calls s (past_of s view))) entry)
+    → answers_for s view (Removed (record entry { xid = 0 }) ∷ []) ≡ while_up up (removal_told (booking entry.pattern entry.priority (book_calls s (past_of s view))) entry)
 removal_sent s view entry true is = rw is (told_again (booking entry.pattern entry.priority (book_calls s (past_of s view))) entry)
 removal_sent s view entry false is = rw is refl
 
 fault_sent : (s : Settings) (view : List Item) (x class code : ℕ) (pair : Option (Pattern × ℕ)) (up : Bool) → is_up view ≡ up
-    → sent_for s view (Fault x class code pair ∷ []) ≡ while_up up (error_told (request_for s x (request_calls s (past_of s view))) class code)
+    → answers_for s view (Fault x class code pair ∷ []) ≡ while_up up (error_told (request_for s x (request_calls s (past_of s view))) class code)
 fault_sent s view x class code pair true is = rw is (append-nil (error_told (request_for s x (request_calls s (past_of s view))) class code))
 fault_sent s view x class code pair false is = rw is refl
 

@@ -1,10 +1,12 @@
-ghost use Rattle.std.specs.Prelude.{◌≡◌, [], ◌∷◌, true, Some, None, IfOk};
-ghost use Rattle.switch_side.specs.Dispatches.{addressed};
+ghost use Rattle.std.specs.Prelude.{◌≡◌, [], ◌∷◌, true, Some, None, map, IfOk, OnOk};
+ghost use Rattle.switch_side.specs.Dispatches.{addressed, shown_by};
 ghost use Rattle.switch_side.specs.Carrying.{carried, telling, handing, turning};
 
 use crate::change::Change;
+use flowspace::SwitchPolicy;
 use of10_ctl::Frame;
 use of10_port::PortStatus;
+use port_turns::turn_out;
 use std::alloc::{AllocError, Global};
 
 /// What follows from one message of a switch.
@@ -40,6 +42,31 @@ fn addressed(alloc: Global, slot: u8, messages: Vec<Frame>) -> Result<Vec<(u8, F
         .into_iter()
         .map(|message| (slot, message))
         .collect(alloc)
+}
+
+/// One message has the port numbers that its slice is shown.
+fn show_one(
+    alloc: Global,
+    policy: &SwitchPolicy,
+    message: &mut (u8, Frame),
+) -> Result<(), AllocError>
+    ensures { OnOk result (message.new ≡ shown_by policy.now.swaps message.old) }
+{
+    let slot = message.0;
+    turn_out(alloc, policy, slot, &mut message.1)
+}
+
+fn show_each(
+    alloc: Global,
+    policy: &SwitchPolicy,
+    messages: &mut [(u8, Frame)],
+) -> Result<(), AllocError>
+    ensures { OnOk result (messages.new ≡ map (shown_by policy.now.swaps) messages.old) }
+{
+    for message in messages.iter_mut() {
+        show_one(alloc, policy, message)?;
+    }
+    Ok(())
 }
 
 impl Dispatch {
@@ -112,5 +139,16 @@ impl Dispatch {
             close: true,
             ..Dispatch::nothing(alloc)
         }
+    }
+
+    /// The messages for slices have the port numbers that their slices are shown. A policy without swaps costs one
+    /// test.
+    pub(crate) fn show(&mut self, alloc: Global, policy: &SwitchPolicy) -> Result<(), AllocError>
+        ensures { OnOk result (carried self.new ≡ record (carried self.old) { messages = map (shown_by policy.now.swaps) self.old.to_slices.items }) }
+    {
+        if policy.has_swaps() {
+            show_each(alloc, policy, &mut self.to_slices)?;
+        }
+        Ok(())
     }
 }

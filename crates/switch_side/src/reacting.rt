@@ -194,5 +194,6 @@ pub fn react_in(
         ports,
         states,
     };
-    dispatch(alloc, spare, &around, frame)
+    dispatch(alloc, spare, &around, frame)?;
+    spare.dispatch.show(alloc, policy)
 }
