@@ -46,6 +46,6 @@ abbrev pub answer_of : Result (List Action) ℕ → Result (List Action) CheckFa
 answer_of (Ok list) = if leb (length (spelling list)) 65463 then Ok list else Err TooMany
 answer_of (Err code) = Err (Refused code)
 
--- a call gives the answer, or want of memory in the place of a list
+-- a call gives the answer, or out of memory in the place of a list
 abbrev pub GivesList : Result (List Action) CheckFault → Result (List Action) CheckFault → Type 0
 GivesList called answer = Answers (λ fault told. (told ≡ Err fault) ⊎ ((fault ≡ Memory) × ((list : List Action) × (told ≡ Ok list)))) (λ list. list) called answer

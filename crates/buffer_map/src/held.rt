@@ -2,7 +2,7 @@
 
 use of10_match::Header12;
 
-/// A packet that the switch buffers, of which a slice was told.
+/// A packet that the switch buffers and that was reported to a slice.
 #[derive(Clone, Copy, PartialEq, Eq)]
 pub struct Held {
     /// How many packets were given before it. The slice knows the packet by the low 24 bits.

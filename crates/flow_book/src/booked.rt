@@ -7,7 +7,7 @@ use of10_match::Match;
 pub struct Booked {
     pub pattern: Match,
     pub priority: u16,
-    /// Whether the last flow-mod that booked the pair asks to be told of its removal (OpenFlow 1.0.0,
+    /// Whether the last flow-mod that booked the pair asks for a report of its removal (OpenFlow 1.0.0,
     /// section 5.3.3).
     pub asked: bool,
     /// The request that booked the pair first.

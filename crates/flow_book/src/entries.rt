@@ -79,7 +79,7 @@ impl Entries {
         &self.store[self.order[index] as usize]
     }
 
-    /// The entry at the index asks to be told of removals, or doesn't.
+    /// The entry at the index asks for reports of removals, or doesn't.
     pub(crate) fn set_asked(&mut self, index: usize, asked: bool)
         requires { index < length self.old.booked }
         ensures booked { (d : BookedPair) → self.new.booked ≡ set self.old.booked index (record (slice_index_or self.old.booked index d) { asked = asked }) }

@@ -13,7 +13,7 @@ pub fn pair_is_booked_by_the_last_call()
     ensures { (pattern : Pattern) (priority : ℕ) (calls : List BookCall) → IsNormal pattern → IsTrue (is_booked pattern priority (book calls)) ↔ ((wish : Bool) × IsLastBooked pattern priority wish calls) }
 {}
 
-/// A booked pair asks to be told of its removal as the last call asked that booked it, and it is of the
+/// A booked pair asks for a report of its removal as the last call asked that booked it, and it is of the
 /// request that booked it first since it was last released.
 pub fn booked_pair_is_as_its_calls_say()
     ensures asked { (pattern : Pattern) (priority : ℕ) (calls : List BookCall) (b : BookedPair) → IsNormal pattern → booking pattern priority calls ≡ Some b → IsLastBooked pattern priority b.asked calls }

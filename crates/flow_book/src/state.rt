@@ -31,7 +31,7 @@ pub struct SliceState {
     pub up: bool,
     /// How many bytes of a packet it is sent (OpenFlow 1.0.0, section 5.3.2).
     pub miss_send_len: u16,
-    /// The greatest moment of its messages so far, in milliseconds.
+    /// The greatest timestamp of its messages so far, in milliseconds.
     pub moment: u64,
 }
 

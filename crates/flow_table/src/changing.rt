@@ -32,8 +32,8 @@ fn add_entry(alloc: Global, entries: &mut Vec<FlowEntry>, m: &FlowMod) -> Result
     }
 }
 
-/// So many copies of the actions. All are taken before an entry is changed, so that want of memory
-/// changes none.
+/// So many copies of the actions. All are taken before an entry is changed, so that none is changed when
+/// memory runs out.
 fn copies(alloc: Global, actions: &Actions, count: usize) -> Result<Vec<Actions>, AllocError>
     ensures lists { IfOk result (λ lists. All (λ list. list ≡ actions.now) lists.items) }
     ensures count { IfOk result (λ lists. vec_len lists ≡ count) }

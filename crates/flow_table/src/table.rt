@@ -24,8 +24,8 @@ pub enum Applied {
     Overlap,
 }
 
-/// A flow table as a plain list of entries (OpenFlow 1.0.0, sections 3.4 and 4.6). Any number of them
-/// fits: only want of memory refuses one (this proxy's own rule).
+/// A flow table as a plain list of entries (OpenFlow 1.0.0, sections 3.4 and 4.6). Any number of entries
+/// fits: one is refused only when memory runs out (this proxy's own rule).
 #[derive(Drop)]
 pub struct Table {
     alloc: Global,
@@ -69,7 +69,7 @@ impl Table {
     }
 
     /// Changes the table as the flow-mod says. A command above 4 changes nothing, and the flag EMERG is
-    /// disregarded (this proxy's own rule). After want of memory the table is as before.
+    /// disregarded (this proxy's own rule). When memory runs out, the table is as before.
     pub fn apply(&mut self, m: &FlowMod) -> Result<Applied, AllocError>
         ensures value { IfOk result (λ applied. self.new ≡ Apply self.old m.now) }
         ensures overlap { IfOk result (λ applied. (applied ≡ Overlap) ↔ IsTrue (refuses self.old m.now)) }

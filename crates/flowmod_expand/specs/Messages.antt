@@ -41,7 +41,7 @@ flow_messages m xid pieces lists buffer = map spell_flow_mod (piece_messages 0 m
 abbrev pub are_too_large : List (List ℕ) → Bool
 are_too_large messages = nat_lt 262144 (sum_by length messages) || list_any (λ bytes. nat_lt 65535 (length bytes)) messages
 
--- a call answers the messages exactly where they aren't too large, or want of memory in their place, and that they are too large where they are
+-- a call answers the messages exactly where they aren't too large, or out of memory in their place, and that they are too large where they are
 abbrev pub GivesMessages : {A : Type 0} → (A → List (List ℕ)) → Result A BuildFault → List (List ℕ) → Type 0
 GivesMessages view (Ok frames) messages = (view frames ≡ messages) × (are_too_large messages ≡ false)
 GivesMessages view (Err TooLarge) messages = are_too_large messages ≡ true

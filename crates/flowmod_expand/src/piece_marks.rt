@@ -1,4 +1,4 @@
-//! Marks by which most pieces that differ are told apart at once, so that few are compared.
+//! Marks that at once distinguish most pieces that differ, so that few are compared.
 
 ghost use Rattle.std.specs.Prelude.{◌≡◌, ◌+◌, ◌*◌, ◌<◌, ◌%◌, ◌^◌};
 ghost use Rattle.flowmod_expand.specs.Marks.{field_mark, prefix_key, weighed, mark_of};

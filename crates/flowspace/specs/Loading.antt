@@ -99,6 +99,6 @@ fault_with_swaps slices rules swaps = option_or (fault_of slices rules) (fault_o
 abbrev pub load_ports_of : List Slice → List Rule → List Swap → Result PolicyView PolicyFault
 load_ports_of slices rules swaps = elim (fault_with_swaps slices rules swaps) [ None ↦ Ok (record { slices = slices; rules = rules; swaps = swaps }) | Some fault ↦ Err fault ]
 
--- a call answers what it should, or want of memory
+-- a call answers what it should, or that it is out of memory
 abbrev pub GivesPolicy : {A : Type 0} → Result A PolicyFault → Result A PolicyFault → Type 0
 GivesPolicy called said = Answers (λ fault told. (fault ≡ Memory) ⊎ (told ≡ Err fault)) (λ x. x) called said

@@ -72,6 +72,6 @@ pub enum PolicyFault {
     UnknownPortSlice(u64),
     /// The swap names a number that an earlier swap of its slice names on a common switch.
     PortTwice(u64),
-    /// Want of memory.
+    /// Out of memory.
     Memory,
 }

@@ -1,4 +1,4 @@
-//! The outside in memory, which tells its contents.
+//! The outside in memory, which shows its contents.
 
 ghost use Rattle.std.specs.Prelude.{◌≡◌, ◌≤◌, ◌<◌, ◌+◌, ◌-◌, ◌^◌, min, ℕ, List, [], Some, None, length, drop, ◌||◌, ◌&&◌, is_ok, vec_len, vec_capacity, take, option_map, IsTrue, IsFalse, IfOk, IfSome, IsOkAnd, OnOk, OnErr};
 ghost use Rattle.std.specs.Result.{result_ok};
@@ -126,7 +126,7 @@ impl Sink for MemorySink {
     }
 }
 
-/// A sink that never fails. It keeps nothing but the number of bytes that it took, so it tells nothing.
+/// A sink that never fails. It keeps nothing but the number of bytes that it took, so it shows nothing.
 #[derive(Drop)]
 pub struct NeverSink {
     taken: u64,
@@ -199,9 +199,8 @@ fn copy(bytes: &[u8], from: u64, most: usize, into: &mut [u8]) -> usize
 }
 
 /// Files by their path. Where a path has two files, the first one counts. Each path that was added, or
-/// declared as missing, has a count of faults of its own; only the paths of which this object was told
-/// nothing share one count. A read takes no memory: it fails only where the plan says so, and at a path
-/// without a file.
+/// declared as missing, has a count of faults of its own; only all other paths share one count. A read takes
+/// no memory: it fails only where the plan says so, and at a path without a file.
 #[derive(Drop)]
 pub struct MemoryFiles {
     alloc: Global,

@@ -1,8 +1,8 @@
 //! The traits of the outside.
 //!
 //! Each has a count of faults that never falls. A call answers `Failed` only where that count rose in the
-//! call, and a call that goes well leaves it as it was. What is told of the outside is for proofs: objects
-//! in memory tell their contents, files and sockets don't, and a caller can't see which it has.
+//! call, and a call that goes well leaves it as it was. What is said of the outside is for proofs: objects in
+//! memory show their contents, files and sockets don't, and a caller can't see which it has.
 
 ghost use Rattle.std.specs.Prelude.{◌≡◌, ◌≤◌, ◌<◌, ℕ, List, Option, length, drop, take, IfOk, OnOk, OnErr, IfSome};
 ghost use Rattle.fv_base.specs.Counts.{one_more};
@@ -23,7 +23,7 @@ pub fn one_more(faults: u64) -> u64
 
 /// Where bytes are written to.
 pub trait Sink: Drop {
-    /// What was appended so far, where it is told.
+    /// What was appended so far, where it is shown.
     ghost contents: { Self → Option (List ℕ) };
 
     /// How often a call has failed.
@@ -44,7 +44,7 @@ pub trait Sink: Drop {
 
 /// Files that are read by their path.
 pub trait Files: Drop {
-    /// The bytes of the file at a path, where they are told.
+    /// The bytes of the file at a path, where they are shown.
     ghost contents: { Self → List ℕ → Option (List ℕ) };
 
     /// How often a call for a path has failed.

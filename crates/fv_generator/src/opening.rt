@@ -13,7 +13,7 @@ use std::alloc::{AllocError, Global};
 /// The transaction id under which the proxy asks a switch for its features.
 const ASKED: u32 = 0xff00_0001;
 
-/// What the switch tells of itself: four ports, one of them its own.
+/// What the switch says of itself: four ports, one of them its own.
 #[tactic(auto, unfolding(crate::specs::Made::features_message))]
 fn features(alloc: Global) -> Result<Frame, AllocError>
     ensures { IfOk result (λ f. f ≡ features_message) }
@@ -35,7 +35,7 @@ fn features(alloc: Global) -> Result<Frame, AllocError>
     features.encode(alloc, ASKED)
 }
 
-/// Appends the records with which every made recording begins: the switch and both slices come.
+/// Appends the records with which every made recording begins: the switch and both slices connect.
 pub(crate) fn put_opening(alloc: Global, out: &mut Vec<u8>) -> Result<(), AllocError>
     ensures { OnOk result (out.new.items ≡ out.old.items ++ flat_map record_bytes opening) }
 {

@@ -51,6 +51,6 @@ pub fn policy(alloc: Global) -> Result<Policy, AllocError>
     ensures { IfOk result (λ p. p ≡ the_policy) }
 {
     let rules = Vec::from_slice(alloc, &[rule(100, 0, 80), rule(50, 1, 22)])?;
-    // Only want of memory is left: a law says that the policy is accepted.
+    // Only out of memory is left: a law says that the policy is accepted.
     Policy::load(alloc, slices(alloc)?, rules).map_err(|_| AllocError)
 }

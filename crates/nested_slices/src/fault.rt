@@ -2,7 +2,7 @@
 
 use flowspace::PolicyFault;
 
-/// Why a slice isn't divided. Each is told only where none of those before it holds.
+/// Why a slice isn't divided. Each is reported only where none of those before it holds.
 #[derive(Clone, Copy, Debug, PartialEq, Eq)]
 pub enum NestFault {
     /// One of the policies exchanges port numbers for a slice.
@@ -17,6 +17,6 @@ pub enum NestFault {
     Quota(u64),
     /// The flat slices and rules are no policy, and have this fault: too many of something, or a name twice.
     Refused(PolicyFault),
-    /// Want of memory.
+    /// Out of memory.
     Memory,
 }

@@ -5,7 +5,7 @@ ghost use Rattle.flowspace.specs.Policies.{AreNormal};
 
 use flowspace::Rule;
 
-// Reading a match tells that it is normal.
+// Reading a match shows that it is normal.
 fn see_normal(rule: &Rule)
     ensures { IsNormal rule.now.pattern }
 {

@@ -10,7 +10,7 @@ use Rattle.of10_action.specs.declared.fault.DecodeFault.{DecodeFault}
 use Rattle.of10_action.specs.declared.fault.DecodeFault.TheVariants as faults
 use Rattle.of10_action.specs.Actions.{size_of}
 
--- a call fails as a reading does, or for want of memory
+-- a call fails as a reading does, or when memory runs out
 abbrev pub Fails : {X : Type 0} → DecodeFault → Result X WireFault → Type 0
 Fails faults.Memory read = Unit {0}
 Fails (faults.Wire fault) read = read ≡ Err fault

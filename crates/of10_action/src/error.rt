@@ -54,7 +54,7 @@ pub const FLOW_MOD_FAILED: u16 = 3;
 /// Codes of FLOW_MOD_FAILED. There is no room for another entry.
 pub const ALL_TABLES_FULL: u16 = 0;
 
-/// An entry of the same priority has a header in common, and the sender asked to be told.
+/// An entry of the same priority has a header in common, and the sender asked for a check of overlaps.
 pub const OVERLAP: u16 = 1;
 
 /// Its sender may not send it.

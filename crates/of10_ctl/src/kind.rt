@@ -18,13 +18,13 @@ pub const VENDOR: u8 = 4;
 /// Asks what the switch is.
 pub const FEATURES_REQUEST: u8 = 5;
 
-/// Tells the datapath, what it can do, and its ports.
+/// Says the datapath, what it can do, and its ports.
 pub const FEATURES_REPLY: u8 = 6;
 
 /// Asks how the switch is set.
 pub const GET_CONFIG_REQUEST: u8 = 7;
 
-/// Tells how the switch is set.
+/// Says how the switch is set.
 pub const GET_CONFIG_REPLY: u8 = 8;
 
 /// Sets how fragments are handled, and how much of a packet is handed up.
@@ -33,10 +33,10 @@ pub const SET_CONFIG: u8 = 9;
 /// Hands a packet to the controller.
 pub const PACKET_IN: u8 = 10;
 
-/// Tells that an entry is gone.
+/// Says that an entry was removed.
 pub const FLOW_REMOVED: u8 = 11;
 
-/// Tells that a port came, went or changed.
+/// Says that a port was added, removed or changed.
 pub const PORT_STATUS: u8 = 12;
 
 /// Hands a packet to the switch, with what to do with it.
@@ -57,11 +57,11 @@ pub const STATS_REPLY: u8 = 17;
 /// Asks that all before it be done before all after it.
 pub const BARRIER_REQUEST: u8 = 18;
 
-/// Tells that all before it is done.
+/// Says that all before it is done.
 pub const BARRIER_REPLY: u8 = 19;
 
 /// Asks for the queues of a port.
 pub const QUEUE_GET_CONFIG_REQUEST: u8 = 20;
 
-/// Tells the queues of a port.
+/// Lists the queues of a port.
 pub const QUEUE_GET_CONFIG_REPLY: u8 = 21;

@@ -1,4 +1,4 @@
-//! The messages of OpenFlow 1.0 that change flow tables, tell of their entries and carry packets; and flow
+//! The messages of OpenFlow 1.0 that change flow tables, report their entries and carry packets; and flow
 //! tables, as definitions with their laws.
 #![tactic(auto)]
 

@@ -43,7 +43,7 @@ impl QueuesQuestion {
 /// A reply to a question for the queues of a port, where it lies: nothing is copied.
 #[derive(Clone, Copy)]
 pub struct QueuesView<'a> {
-    /// The port whose queues are told of.
+    /// The port whose queues are listed.
     pub port: u16,
     /// All behind the message's head: the port, six bytes of padding, and the queues.
     pub body: &'a [u8],

@@ -23,7 +23,7 @@ pub fn membership_is_decided()
     ensures { (m : Pattern) (h : Header) → IsTrue (has m h) ↔ Has m h }
 {}
 
-/// The test of two matches, which computes, tells whether they are equal.
+/// The test of two matches, which computes, says whether they are equal.
 pub fn sameness_is_decided()
     ensures { (a b : Pattern) → IsTrue (is_same a b) ↔ (a ≡ b) }
 {}

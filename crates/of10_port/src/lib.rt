@@ -1,4 +1,4 @@
-//! The ports of a switch, and the two messages of OpenFlow 1.0 that tell them: FEATURES_REPLY and
+//! The ports of a switch, and the two messages of OpenFlow 1.0 that describe them: FEATURES_REPLY and
 //! PORT_STATUS.
 #![tactic(auto)]
 

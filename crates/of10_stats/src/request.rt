@@ -96,7 +96,7 @@ fn put_flow(out: &mut Vec<u8>, pattern: &Match, table: u8, out_port: u16) -> Res
 }
 
 impl StatsRequest {
-    /// What the message asks, padding and flags disregarded. Of its faults the first is told: `Length`
+    /// What the message asks, padding and flags disregarded. Of its faults the first is reported: `Length`
     /// below 12 bytes, `StatVendor`, `StatKind`, and `Length` for a body of another length than its type
     /// of statistics has (OpenFlow 1.0.0, section 5.3.5).
     #[tactic(auto, unfolding(crate::specs::Requests::read_request))]

@@ -11,7 +11,7 @@ use std::cmp::Ordering;
 
 /// The values of the fields that a shape has: zero for the other fields, and of a network address the leading
 /// bits that the shape has.
-// The fields in which patterns of one slice differ most often come first, so that keys are told apart early.
+// The fields in which patterns of one slice differ most often come first, so that a difference shows early.
 #[derive(Clone, Copy, PartialEq, Eq, PartialOrd, Ord, Drop)]
 pub(crate) struct Key {
     pub(crate) nw_dst: u32,

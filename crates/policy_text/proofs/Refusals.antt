@@ -1,4 +1,4 @@
--- No reading is refused for want of memory.
+-- No reading is refused as out of memory.
 use Rattle.std.proofs.Common.{◌≢◌, ℕ, Bool, is_some, List, Result, Ok, Err, IfErr, codes, unwrap_or}
 use Rattle.toml.specs.Data.{Data, no_items, Members}
 use Rattle.flowspace.specs.declared.fault.PolicyFault.TheVariants as policy
@@ -18,7 +18,7 @@ use Rattle.policy_text.specs.Documents.{parts_in}
 use Rattle.policy_text.proofs.Arrays.{of_tables, reads_has}
 use Rattle.policy_text.proofs.Faults.{Has, bind_has, OfValue, OfMissing, OfKeys, required_has, optional_has, known_has, slice_has, OfRule, rule_has, swap_has}
 
--- the fault isn't a refusal for want of memory
+-- the fault isn't a refusal as out of memory
 abbrev IsOwn : ReadFault → Type 0
 IsOwn fault = fault ≢ Refused policy.Memory
 
@@ -77,6 +77,6 @@ given_own view (Err (Improper rule field)) read given own = λ e. absurd cc
 given_own view (Err (Refused fault)) read given own = rw given at own
 given_own view (Err Memory) read given own = λ e. absurd cc
 
--- what a call answers by a table's parts is no refusal for want of memory
+-- what a call answers by a table's parts is no refusal as out of memory
 pub refused_own : {X : Type 0} (view : X → PolicyView) (r : Result X ReadFault) (highest : ℕ) (this : SectionView) → GivesAsText view r (parts_in highest this) → IfErr r (λ fault. fault ≢ Refused policy.Memory)
 refused_own view r highest this given = given_own view r (parts_in highest this) given (parts_own highest this)

@@ -25,7 +25,7 @@ use Rattle.policy_text.specs.declared.values.Numerals.TheVariants.{Datapath, Har
 use Rattle.policy_text.specs.declared.values.Texts.{Texts}
 use Rattle.policy_text.specs.declared.values.Texts.TheVariants.{Name, Controller, Any}
 
--- a call fails as a reading does, or for want of memory
+-- a call fails as a reading does, or when memory runs out
 abbrev pub FailsAsText : {Y : Type 0} → ReadFault → Result Y ReadFault → Type 0
 FailsAsText NotToml read = read ≡ Err NotToml
 FailsAsText (Missing at) read = read ≡ Err (Missing at)

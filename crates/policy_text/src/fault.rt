@@ -62,9 +62,9 @@ pub enum ReadFault {
     UnknownKey(Place),
     /// The rule has a field that may not stand there.
     Improper(u64, Field),
-    /// The slices and rules make no policy. This is never for want of memory.
+    /// The slices and rules make no policy. The fault that is given here is never out of memory.
     Refused(PolicyFault),
-    /// Want of memory.
+    /// Out of memory.
     Memory,
 }
 

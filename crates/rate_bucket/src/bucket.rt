@@ -5,8 +5,8 @@ ghost use Rattle.rate_bucket.specs.Rates.{latest, Conforms, is_conforming, accep
 
 use std::marker::Model;
 
-/// Says which questions keep a rate, with no rounding. Moments are in milliseconds and may go back: a
-/// question counts with the greatest moment asked up to it.
+/// Says which questions keep a rate, with no rounding. Timestamps are in milliseconds and may go back: a
+/// question counts with the greatest timestamp asked up to it.
 #[derive(Drop)]
 pub struct RateBucket {
     rate: u32,
@@ -39,7 +39,7 @@ impl RateBucket {
         }
     }
 
-    /// The thousandths of a question for which there is room at the moment.
+    /// The thousandths of a question for which there is room at the timestamp.
     fn level_at(&self, moment: u64) -> u64
         ensures { result ≡ min (self.now.level + self.now.rate * (moment - self.now.moment)) (1000 * self.now.burst) }
     {
@@ -48,7 +48,7 @@ impl RateBucket {
         level.min(1000 * u128::from(self.burst)) as u64
     }
 
-    /// Asks a question at the moment, and says whether it keeps the rate. A question that doesn't keep it
+    /// Asks a question at the timestamp, and says whether it keeps the rate. A question that doesn't keep it
     /// uses up nothing.
     pub fn ask(&mut self, moment: u64) -> bool
         ensures answer { (questions : List ℕ) → BucketStands questions self.old → (IsTrue result ↔ Conforms self.old.rate self.old.burst (accepted self.old.rate self.old.burst questions) (latest (moment ∷ questions))) }

@@ -9,7 +9,7 @@ use crate::item::{
 };
 use of10_model::wire::u16_at;
 
-/// What the records of a file tell.
+/// What the records of a file say.
 #[derive(Clone, Copy, Debug, PartialEq, Eq)]
 pub enum Layout {
     /// What came from switches and slices: the kinds 0 to 5, whose bytes may end anywhere in a frame.

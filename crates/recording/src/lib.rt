@@ -1,5 +1,5 @@
 //! Recordings and traces: what came from switches and slices, what was sent for slices, and when, as the
-//! records of a file tell it.
+//! records of a file say it.
 #![tactic(auto)]
 
 mod fault;

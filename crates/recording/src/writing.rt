@@ -58,7 +58,7 @@ fn put_item(
     out.extend_from_slice(bytes)
 }
 
-/// Appends a record of this kind, of the constants of this crate, at a moment in milliseconds. Where memory
+/// Appends a record of this kind, of the constants of this crate, at a timestamp in milliseconds. Where memory
 /// runs out, `out` is as before.
 pub fn add_item(
     out: &mut Vec<u8>,

@@ -45,7 +45,7 @@ pub fn replies_have_the_pages()
 {}
 
 /// A flow is a slice's exactly where one of its write rules has all headers of the flow's match, and a port or
-/// a queue where the slice has the port. What the switch is told to be is every slice's.
+/// a queue where the slice has the port. The description of the switch is every slice's.
 pub fn own_entries_are_those_that_the_slice_may_write()
     ensures flows { (rules : List Rule) → AreNormal rules → (slot : ℕ) (entry : List ℕ) → All (λ byte. byte < 256) entry → IsTrue (is_own_entry rules slot FLOW entry) ↔ Owns rules slot (flow_of entry).0 }
     ensures ports { (rules : List Rule) (slot : ℕ) (entry : List ℕ) → IsTrue (is_own_entry rules slot PORT entry) ↔ HasPort rules slot (entry_port entry) }
