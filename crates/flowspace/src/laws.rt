@@ -51,9 +51,9 @@ pub fn match_has_one_owner()
     ensures headers { (slices : List Slice) (rules : List Rule) → IsSwitchPolicy slices rules → AreNormal rules → (slot : ℕ) (m : Pattern) → IsNormal m → (owner_of_match rules m ≡ Some slot) ↔ Owns rules slot m }
 {}
 
-/// Plain slices, rules and swaps are loaded, and as they are, exactly where all of this holds. The slices and
-/// rules make a policy. The swaps are within their limit and of slices that are there. No number of a slice
-/// is named twice on a switch.
+/// Plain slices, rules and swaps are loaded, and as they are, exactly where slices and rules make a policy
+/// and the swaps suit it. Swaps suit a policy where they are within their limit and of slices that are there,
+/// and no number of a slice is named twice on a switch.
 pub fn what_is_accepted_with_swaps_is_loaded()
     ensures { (slices : List Slice) (rules : List Rule) (swaps : List Swap) → 1 ≤ length slices → All IsPlainSlice slices → All IsPlainRule rules → AreNormal rules → All IsPlainSwap swaps → (load_ports_of slices rules swaps ≡ Ok (record { slices = slices; rules = rules; swaps = swaps })) ↔ (IsPolicy slices rules × AreSwaps (length slices) swaps) }
 {}

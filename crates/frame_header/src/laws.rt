@@ -4,9 +4,9 @@ ghost use Rattle.std.specs.Prelude.{ℕ, List, ◌≡◌, ◌≢◌, ◌<◌, �
 ghost use Rattle.frame_header.specs.Headers.{header_of_packet};
 ghost use Rattle.frame_header.specs.Packets.{Ethernet, IsEthernet, spell_ethernet, Segment, IsSegment, proto_of, first_port, second_of, spell_segment, Ipv4, IsIpv4, spell_ipv4, ipv4_header, Arp, IsArp, spell_arp, arp_header};
 
-/// An IPv4 packet has the fields that it is spelled from: in Ethernet II or in 802.3 with SNAP, with a VLAN
-/// tag or without, with options or without. This holds whatever its total length says and whatever follows
-/// the fields. Where the packet is whole, it also has the two fields of TCP, UDP or ICMP behind the options.
+/// An IPv4 packet has the fields that it is spelled from, whatever its total length says and whatever follows
+/// the fields. This holds in Ethernet II or in 802.3 with SNAP, with a VLAN tag or without, with options or
+/// without. Where the packet is whole, it also has the two fields of TCP, UDP or ICMP behind the options.
 /// Both are 0 where the packet is of another protocol, and where it is a fragment, which has a flag for more
 /// or an offset.
 pub fn ipv4_packet_has_its_fields()
