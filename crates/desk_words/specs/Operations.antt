@@ -122,12 +122,12 @@ abbrev pub message_taken : Taken → Option (List ℕ)
 message_taken (Message message) = Some message
 message_taken taken = None
 
--- no message will come for a destination, where the switch's connection is in a phase and those of the slices are so up: the switch's has ended, there is no such slot, or the slice isn't up though the switch has told what it is
+-- no message will come for a destination, where the switch's connection is in a phase and those of the slices are so up. The switch's connection has ended, there is no such slot, or the slice isn't up though the switch has said what it is
 abbrev pub is_gone : PolicyView → Phase → (ℕ → Bool) → Dest → Bool
 is_gone policy phase slice_up Switch = is_ended phase
 is_gone policy phase slice_up (Slice slot) = is_ended phase || not (is_slot policy slot) || (is_open phase && not (slice_up slot))
 
--- it is too early for a destination: the switch hasn't connected, or for a slice hasn't told what it is
+-- it is too early for a destination: the switch hasn't connected, or for a slice hasn't said what it is
 abbrev pub is_early : Phase → Dest → Bool
 is_early phase Switch = is_fresh phase
 is_early phase (Slice slot) = not (is_open phase)
@@ -146,7 +146,7 @@ take_reply policy before dest =
     let q = waiting_of policy dest before in
     elim q.pending [ [] ↦ empty_reply policy (events_of before) dest q.choked | message ∷ later ↦ Message message ]
 
--- a reply to a step is right: the verdict on its event, or want of memory unless the event is the end of a connection
+-- a reply to a step is right: the verdict on its event, or out of memory unless the event is the end of a connection
 abbrev pub IsReply : PolicyView → List Operation → Timed → Result Verdict AllocError → Type 0
 IsReply policy before timed (Ok answered) = answered ≡ verdict policy (events_of before) timed
 IsReply policy before timed (Err fault) = is_down timed.event ≡ false

@@ -52,7 +52,7 @@ sent_within ss rs policy slot m xid piece actions buffer owns h range has =
 
 -- ---- ports
 
--- a flood goes to ports of the slice
+-- a flood is sent to ports of the slice
 pub flooded_own : (rs : List Rule) (slot : ℕ) (all : Bool) (known : List (List ℕ)) → All (HasPort rs slot) (flooded all (ports_of_slice rs slot known))
 flooded_own rs slot all known =
     let own = λ (port : List ℕ). has_port rs slot (port_number port) in

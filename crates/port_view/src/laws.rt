@@ -8,9 +8,9 @@ ghost use Rattle.port_view.specs.declared.status_answers.Kept.TheVariants.{Kept}
 ghost use Rattle.port_view.specs.KnownPorts.{IsAscending, port_of, kept_of, changed_plainly, changed, known_of};
 ghost use Rattle.port_view.specs.Told.{told_last};
 
-/// What is known: a port of a number is known exactly where the last that told of that number, the
-/// FEATURES_REPLY or a kept status, didn't delete it, and it is the port that was told last. The ports
-/// stand in ascending order of their numbers, and no more than 1,364 are known.
+/// What is known: a port of a number is known exactly where the last report of that number, the
+/// FEATURES_REPLY or a kept status, didn't delete the port. What is known is the port that was reported last.
+/// The ports stand in ascending order of their numbers, and no more than 1,364 are known.
 pub fn port_is_known_as_it_was_told_last()
     ensures told { (features : Features) (statuses : List PortStatus) (number : ℕ) → port_of number (known_of features statuses) ≡ told_last number features statuses }
     ensures order { (features : Features) (statuses : List PortStatus) → IsAscending (known_of features statuses) }

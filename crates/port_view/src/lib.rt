@@ -1,4 +1,4 @@
-//! The ports of a switch as its messages tell them, and the part of them that a slice is shown.
+//! The ports of a switch as its messages report them, and the part of them that a slice is shown.
 #![tactic(auto)]
 
 pub mod laws;

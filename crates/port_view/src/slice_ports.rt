@@ -8,7 +8,7 @@ use of10_port::Port;
 use of10_port::protocol::{LOCAL, NO_FLOOD};
 use std::alloc::{AllocError, Global};
 
-/// The most packets that a slice is told a switch can hold for it.
+/// The most packets that a switch can hold for a slice, as the slice is shown.
 const BUFFERS: u32 = 256;
 
 /// Whether a port is kept out of floods.
@@ -25,7 +25,7 @@ fn is_flooded(port: &Port, all: bool) -> bool
     port.number() != LOCAL && (all || !has_no_flood(port))
 }
 
-/// How many packets a slice is told that a switch holds for it.
+/// How many packets a switch can hold for a slice, as the slice is shown.
 pub(crate) fn buffers_for(buffers: u32) -> u32
     ensures { result ≡ min buffers 256 }
 {

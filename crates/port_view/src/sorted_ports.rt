@@ -16,7 +16,7 @@ pub(crate) fn place_of(ports: &[Port], number: u16) -> Result<usize, usize>
     ports.binary_search_by_key(&number, |port| port.number())
 }
 
-/// The place of the port that a status tells of, and what becomes of the status.
+/// The place of the port that a status reports, and what becomes of the status.
 pub(crate) fn judged(ports: &[Port], status: &PortStatus) -> (Result<usize, usize>, Kept)
     requires { IsAscending ports.now }
     ensures place { IsPlace (port_number status.now.port) ports.now result.0 }
@@ -49,7 +49,7 @@ pub(crate) fn put(
     }
 }
 
-/// Makes the change that a status tells.
+/// Makes the change that a status reports.
 pub(crate) fn change(
     ports: &mut Vec<Port>,
     place: Result<usize, usize>,

@@ -21,11 +21,11 @@ pub enum Kept {
     /// It says nothing of the ports: its number stands for no port, it has no such reason, or it deletes a
     /// port that isn't known.
     Ignored,
-    /// It tells of one port more than are kept.
+    /// It reports one port more than are kept.
     TooManyPorts,
 }
 
-/// What becomes of a status, where so many ports are known, with or without the port that it tells of.
+/// What becomes of a status, where so many ports are known, with or without the port that it reports.
 #[tactic(auto, unfolding(crate::specs::KnownPorts::kept_of))]
 pub(crate) fn answer_to(status: &PortStatus, is_there: bool, count: usize) -> Kept
     ensures { (known : List (List ℕ)) → is_there ≡ is_known (port_number status.now.port) known → count ≡ length known → result ≡ kept_of status.now known }

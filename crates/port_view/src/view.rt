@@ -17,7 +17,7 @@ use of10_port::{Features, Port, PortStatus, Ports};
 use std::alloc::{AllocError, Global};
 use std::marker::Model;
 
-/// The ports that a switch has told of, at most 1,364, in ascending order of their numbers.
+/// The ports that a switch has reported, at most 1,364, in ascending order of their numbers.
 #[derive(Drop)]
 pub struct PortView {
     ports: Vec<Port>,
@@ -34,7 +34,7 @@ impl Model for PortView {
     ghost invariant = { λ v. IsAscending v.ports.items × (length v.ports.items ≤ 1364) };
 }
 
-/// Adds a port that a FEATURES_REPLY tells of to those before it.
+/// Adds a port that a FEATURES_REPLY reports to those before it.
 fn tell(known: &mut Vec<Port>, port: Port) -> Result<(), AllocError>
     requires { IsAscending known.old.items }
     ensures { OnOk result (known.new.items ≡ with_told known.old.items port) }
@@ -60,7 +60,7 @@ fn first_known(alloc: Global, ports: &[Port]) -> Result<Vec<Port>, AllocError>
 }
 
 impl PortView {
-    /// The ports that a switch tells of as it comes up. One whose number stands for no port is passed over;
+    /// The ports that a switch reports as it connects. One whose number stands for no port is passed over;
     /// of two of one number the later one counts.
     pub fn new(alloc: Global, features: &Features) -> Result<PortView, AllocError>
         requires { length features.now.ports ≤ 1364 }
@@ -80,7 +80,7 @@ impl PortView {
         &self.ports
     }
 
-    /// What `take_status` would answer now, want of memory aside.
+    /// What `take_status` would answer now, if memory doesn't run out.
     pub fn test_status(&self, status: &PortStatus) -> Kept
         ensures value { result ≡ kept_of status.now self.now }
         ensures answer { (features : FeaturesTold) (statuses : List StatusView) → PortsStand features statuses self.now → result ≡ kept_of status.now (known_of features statuses) }
@@ -89,8 +89,8 @@ impl PortView {
         answer
     }
 
-    /// Takes in what a switch told of one port. A status that isn't kept changes nothing and
-    /// takes no memory, and want of memory changes nothing.
+    /// Takes in what a switch reported of one port. A status that isn't kept changes nothing and takes no
+    /// memory. When memory runs out, nothing changes.
     pub fn take_status(&mut self, status: &PortStatus) -> Result<Kept, AllocError>
         ensures value { IfOk result (λ kept. kept ≡ kept_of status.now self.old) }
         ensures ports { OnOk result (self.new ≡ changed status.now self.old) }

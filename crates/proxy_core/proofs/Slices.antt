@@ -38,7 +38,7 @@ one_slot p switch sides qs timed slot Becomes old new s at known others own =
     (λ a b x y ga gb becomes. own a b x y (subst (λ (n : ℕ). ltb slot n ≡ true) s.states_count (within old.states.items slot a ga)) (s.each slot a b ga gb) becomes)
     (λ i x y far gx gy. let still = others i far in passes p switch sides qs timed i x y still.0 still.1 (s.each i x y gx gy)))
 
--- want of memory at one slot
+-- out of memory at one slot
 pub kept_slot : (slot : ℕ) (old new : Session) → AtSlot slot Keeps old new → StandsOn old new
 kept_slot slot old new at p switch sides qs s = slot_becomes p switch sides qs qs slot Keeps old new s at
     (λ a b x y was keeps. record {

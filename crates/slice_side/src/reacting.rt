@@ -34,10 +34,10 @@ fn asks_switch(message: &FromController<'_>) -> bool
     )
 }
 
-/// What follows from a message of the controller of the slice at the slot, which came at the moment. It
+/// What follows from a message of the controller of the slice at the slot, which came at the timestamp. It
 /// changes nothing: `reserve` makes the room for the change, and `apply` makes the change. `features` are
-/// those with which the switch told what it is. What is sent on is told of every state; that it is the answer,
-/// of a state that stands for what the slice sees.
+/// those with which the switch said what it is. What is sent on is said of every state. That it is the answer
+/// is said of a state that stands for what the slice sees.
 pub fn react(
     alloc: Global,
     policy: &SwitchPolicy,

@@ -1,4 +1,4 @@
--- What follows from one message of a switch that has told what it is, for all slices at once (this proxy's own rule).
+-- What follows from one message of a switch that has said what it is, for all slices at once (this proxy's own rule).
 use Rattle.std.specs.Prelude.{ℕ, ◌≡◌, true, List, map, slice_get, Some}
 use Rattle.std.specs.List.{flat_map, enumerate_from}
 use Rattle.of10_ctl.specs.Frames.{is_bad}
@@ -20,7 +20,7 @@ use Rattle.switch_side.specs.Changes.{of_slot, SlotChanges}
 
 -- ---- where a message is answered
 
--- the switch has told what it is; the policy has the slices of all switches and the rules that hold on this one; and the ports are those that the switch told of
+-- the switch has said what it is; the policy has the slices of all switches and the rules that hold on this one; and the ports are those that the switch reported
 pub record Surrounds (p : PolicyView) (switch : KnownSwitch) (policy : SwitchView) (ports : List (List ℕ)) : Type 0 where
   pub opened : switch.phase ≡ Opened
   pub slices : policy.slices ≡ p.slices
@@ -59,7 +59,7 @@ abbrev pub AreChanges : PolicyView → KnownSwitch → (ℕ → SliceSide) → �
 AreChanges p switch sides moment message listed =
     (slot : ℕ) → SlotChanges (settings_at p slot switch.features) (number_told switch.phase (SwitchMsg message)) (sides slot).sight (items_of p slot switch (sides slot) (told_at moment message)) (of_slot slot listed)
 
--- what follows from a message of the switch: what each slice is sent, what the switch is sent, what changes in the slices' states, the change of a port, and whether the switch's connection ends, as it does at a length field that doesn't even count the header
+-- what follows from a message of the switch: what each slice is sent, what the switch is sent, what changes in the slices' states, the change of a port, and whether the switch's connection ends. It ends at a length field that doesn't even count the header
 pub record IsDispatch (p : PolicyView) (switch : KnownSwitch) (sides : ℕ → SliceSide) (moment : ℕ) (message : List ℕ) (d : Dispatch) : Type 0 where
   pub to_slices : d.to_slices.items ≡ sent_to_all p switch sides (told_at moment message) 0 p.slices
   pub to_switch : d.to_switch.items ≡ echo_for message

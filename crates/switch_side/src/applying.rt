@@ -65,7 +65,7 @@ fn make_room_at(states: &mut [SliceState], place: usize, change: &Change) -> Res
 }
 
 /// Makes the room that `apply_all` of the changes needs, and leaves what the states stand for as it was. That
-/// there is none is answered as want of memory, and so are changes whose slots don't ascend.
+/// there is none is answered as out of memory, and so are changes whose slots don't ascend.
 #[inline(always)]
 pub fn reserve(states: &mut [SliceState], changes: &[(u8, Change)]) -> Result<(), AllocError>
     ensures stands { StandOn states.old states.new }
@@ -119,7 +119,7 @@ fn collect(state: &mut SliceState, number: u64, kind: AskKind, entries: &[u8])
     add_all(&mut state.collections, number, kind, entries);
 }
 
-/// The slice was told what the request of the number collected.
+/// The slice was sent what the request of the number collected.
 fn finish(state: &mut SliceState, number: u64)
     ensures { IsMade (Finished number) state.old state.new }
 {

@@ -1,4 +1,5 @@
-//! What a slice is told with the last part of statistics: all that was collected (OpenFlow 1.0.0, section 5.3.5).
+//! What a slice is sent with the last part of statistics: all that was collected (OpenFlow 1.0.0, section
+//! 5.3.5).
 
 ghost use Rattle.std.specs.Prelude.{ℕ, ◌≡◌, ◌≤◌, true, List, length, take, Some, IfOk};
 ghost use Rattle.of10_stats.specs.declared.protocol.TheConstants.{FLOW};
@@ -111,7 +112,7 @@ fn sums_replied(
 }
 
 /// The replies with the entries that a request collects, with these more. That one has place in no reply would
-/// be answered as want of memory; but each came in a message.
+/// be answered as out of memory; but each came in a message.
 fn entries_replied(
     alloc: Global,
     collections: &Collections,

@@ -1,4 +1,4 @@
--- Reading a trace finds no want of memory.
+-- Reading a trace doesn't run out of memory.
 use Rattle.std.proofs.Common.{◌≡◌, ℕ, zero, suc, ◌+◌, ◌-◌, not, leb, ltb, List, [], ◌∷◌, take, length, bytes_eq, Result, Ok, Err, inl, inr}
 use Rattle.of10_model.specs.Normal.{number_at}
 use Rattle.of10_model.specs.Results.{◌>>=◌}

@@ -64,7 +64,7 @@ answer_of policy file items = elim (first_wrong policy file [] items) [ None ↦
 abbrev pub audit_of : PolicyView → List ℕ → Result ℕ AuditFault
 audit_of policy file = elim (read_trace (length policy.slices) file) [ Ok items ↦ answer_of policy file items | Err fault ↦ Err (Trace fault) ]
 
--- a call fails as an audit does, or for want of memory
+-- a call fails as an audit does, or when memory runs out
 abbrev pub FailsAsAudit : AuditFault → Result ℕ AuditFault → Type 0
 FailsAsAudit Memory audited = Unit {0}
 FailsAsAudit (Trace fault) audited = audited ≡ Err (Trace fault)
