@@ -1,4 +1,4 @@
-//! Sinks that hold a runtime, for what runs on threads. They may wait, and tell nothing of what was put.
+//! Sinks that hold a runtime, for what runs on threads. They may wait, and show nothing of what was put.
 
 ghost use Rattle.std.specs.Prelude.{None};
 

@@ -38,7 +38,7 @@ pub trait Wires: Drop {
     /// Where it listens.
     ghost place: { Self → List ℕ };
 
-    /// How many connections it accepted, where it is told.
+    /// How many connections it accepted, where it is shown.
     ghost accepted: { Self → Option ℕ };
 
     /// How often a call for a place has failed. An `accept` is for the place at which it listens.

@@ -13,7 +13,7 @@ abbrev pub Wrote : {A E : Type 0} → Result A E → List ℕ → Option (List �
 Wrote (Ok value) text before after = after ≡ appended before text
 Wrote (Err fault) text before after = WrotePart text before after
 
--- what a fault leaves of the sink's count of faults: a write fault has it risen, want of memory as before
+-- what a fault leaves of the sink's count of faults: a write fault has it risen, out of memory as before
 abbrev pub CountedFault : ReportFault → ℕ → ℕ → Type 0
 CountedFault WriteFault old new = (old ≤ new) × Rose old new
 CountedFault Memory old new = new ≡ old

@@ -40,7 +40,7 @@ pub fn erasure()
     ensures { (policy : PolicyView) (slot : ℕ) (h : List Timed) → IsErasable policy slot h }
 {}
 
-/// What the lines of a report say a slice is sent, from each up of a switch to its next one or to the end, is
+/// What the lines of a report say a slice is sent, from each up of a switch to the next one or the end, is
 /// what a proxy sends that serves the slice alone on its view of the switch. `slice_is_told_as_alone` of
 /// `desk_words` says so of the last up, and is all that this takes beside
 /// `earlier_records_have_the_first_events`.

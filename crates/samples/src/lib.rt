@@ -1,7 +1,7 @@
 //! Slices, rules and switches for the tests of other crates.
 //!
 //! What no policy or message may have, as a name of no bytes, is a mistake in a test. It is answered as
-//! want of memory, so that the test fails.
+//! out of memory, so that the test fails.
 #![tactic(auto)]
 
 mod matches;

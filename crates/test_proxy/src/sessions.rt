@@ -1,13 +1,14 @@
 //! Sessions at the desk of one switch, row by row.
 //!
 //! A case begins with a line that says what it shows, and with a fresh desk. `opened` stands for the rows of `OPENED`:
-//! the switch has connected and told what it is, alice is up, and what this brought was taken. A row has a connection
-//! and what becomes of it. It comes `up`, goes `down` or says a message, by its name or its digits, once or so many
-//! times: this `goes`, or its connection `closes`, or all has ended (`ends`). It `asks` for flows, so many times, which
-//! the switch answers. It `gets` the oldest message, which is this one, or `passes` so many messages, or `finds` no
-//! message and why. The switch `is` told or untold, by its datapath id, and a slice is up or down, missing, or unknown
-//! before the switch has told what it is. A `#` at the end stands for the number of the time, from 0, in eight digits. A row of another form
-//! is a mistake in a test. It is answered as want of memory, so that the test fails.
+//! the switch has connected and said what it is, alice is up, and what this brought was taken. A row has a
+//! connection and what becomes of it. It comes `up`, goes `down` or says a message, by its name or its
+//! digits, once or so many times: this `goes`, or its connection `closes`, or all has ended (`ends`). It
+//! `asks` for flows, so many times, which the switch answers. It `gets` the oldest message, which is this
+//! one, or `passes` so many messages, or `finds` no message and why. The switch `is` its datapath id, or
+//! `untold`, and a slice is up or down, missing, or unknown before the switch has said what it is. A `#` at
+//! the end stands for the number of the time, from 0, in eight digits. A row of another form is a mistake in
+//! a test. It is answered as out of memory, so that the test fails.
 
 mod messages;
 
@@ -20,7 +21,7 @@ use samples::{policy, rule, tcp};
 use std::alloc::{AllocError, Global};
 use std::test::Fail;
 
-/// The datapath id that the switch tells.
+/// The datapath id that the switch says.
 const DATAPATH: u64 = 0xa1;
 
 /// The rows for which `opened` stands.

@@ -1,7 +1,7 @@
 //! Bytes and frames for the tests of other crates.
 //!
 //! Digits that spell no bytes, or bytes that are no frame, are a mistake in a test. Where a maker has no other
-//! answer they are answered as want of memory, so that the test fails.
+//! answer they are answered as out of memory, so that the test fails.
 #![tactic(auto)]
 
 ghost use Rattle.std.specs.Prelude.{◌≡◌, Ok, IfNone, IfOk, IfSome};

@@ -25,7 +25,7 @@ pub fn strips(alloc: Global, count: usize) -> Result<Actions, AllocError> {
     Ok(Actions::from_vec(vec![in alloc; Action::StripVlan; count]?))
 }
 
-/// What `build` answers; want of memory where its conditions don't hold, which no test has.
+/// What `build` answers; out of memory where its conditions don't hold, which no test has.
 pub fn built(
     alloc: Global,
     m: &FlowMod,
