@@ -302,7 +302,7 @@ ShowsEachSlice policy place h timed =
 abbrev pub IsClosedByVerdict : PolicyView → ℕ → List Timed → Timed → Type 0
 IsClosedByVerdict policy slot h timed = speaker timed.event ≡ Some slot → is_slice_up policy slot (timed ∷ h) ≡ not (closes policy h timed)
 
--- a switch comes up
+-- a switch connects
 abbrev pub comes_up : ℕ → Happened → Bool
 comes_up switch one = one.switch == switch && is_switch_up one.timed.event
 

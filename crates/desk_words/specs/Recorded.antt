@@ -84,7 +84,7 @@ happened_from policy r before h = take_while (λ one. happens policy one.history
 abbrev pub timed_of : List Happened → List Timed
 timed_of events = map (λ one. one.timed) events
 
--- the history at which a record of a switch begins: that of the switch, or none where the switch comes up, for which there is a fresh desk
+-- the history at which a record of a switch begins: that of the switch, or none where the switch connects, for which there is a fresh desk
 abbrev pub begun_from : Told → List Timed → List Timed
 begun_from r h = if r.kind == switch_up then [] else h
 

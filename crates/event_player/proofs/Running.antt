@@ -56,7 +56,7 @@ pub found_fresh : (p : PolicyView) (r : Told) (before : List Told) (fresh : Swit
 found_fresh p r before fresh true none is_fresh = is_fresh
 found_fresh p r before fresh false none is_fresh = fresh_stands p r.switch before fresh none is_fresh
 
--- a record finds the switch that comes up fresh, and one that doesn't as it was
+-- a record finds the switch that connects fresh, and one that doesn't as it was
 pub up_found : (p : PolicyView) (r : Told) (before : List Told) (fresh : Switch) → r.kind ≡ switch_up → IsFreshSwitch p fresh → IsFound p r before fresh
 up_found p r before fresh is stands = subst (λ (comes : Bool). IsFoundWhere comes p r before fresh) (sym (eq-eqb r.kind switch_up is)) stands
 
