@@ -59,9 +59,10 @@ fn first_code(policy: &SwitchPolicy, slot: u8, origin: &Origin, actions: &[Actio
 
 /// The list that a slice may send where it sent these actions: outputs to the ports of `flood` and of
 /// `all` stand in it for FLOOD and ALL, each with the `max_len` of the action. An action is forbidden
-/// where it sets what the field can't hold, where it sends to a port that the slice doesn't have, or
-/// where not all that it sends, as the actions before it rewrite it, is what one rule lets the slice
-/// write. Numbers of ports: OpenFlow 1.0.0, section 5.2.1; the rules themselves are this proxy's own.
+/// where it sets what the field can't hold, or where it sends to a port that the slice doesn't have. It is
+/// also forbidden where not all that it sends, as the earlier actions rewrite the packet, is what one rule
+/// lets the slice write. Numbers of ports: OpenFlow 1.0.0, section 5.2.1; the rules themselves are this
+/// proxy's own.
 pub fn check(
     alloc: Global,
     policy: &SwitchPolicy,

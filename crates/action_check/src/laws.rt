@@ -10,9 +10,10 @@ ghost use Rattle.action_check.specs.Refusals.{AreAllowed, IsFirstForbidden};
 ghost use Rattle.action_check.specs.Soundness.{IsSound};
 ghost use Rattle.action_check.specs.Laws.{WantedActions, AreWantedInRange, answer_to_wanted};
 
-/// Whatever list is permitted sends only to ports of the slice and to where else it may, and each packet
-/// that it sends is, as the actions before rewrite it, one that the slice may write by some port of entry;
-/// where it is sent to the controller or through the table, by its own. Probes are excepted.
+/// Whatever list is permitted sends only to ports of the slice and to where else it may, and only packets
+/// that the slice may write. Each packet that the list sends is, as the actions before rewrite the packet,
+/// one that the slice may write by some port of entry. A packet that is sent to the controller or through the
+/// table is one that the slice may write by the packet's own port of entry. Probes are excepted.
 pub fn permitted_lists_are_sound()
     ensures { (slices : List Slice) (wanted : WantedActions) → IsSwitchPolicy slices wanted.rules → AreWantedInRange wanted → (given : List Action) → answer_to_wanted wanted ≡ Ok given → IsSound wanted.rules wanted.slot wanted.origin given }
 {}

@@ -39,7 +39,7 @@ use Rattle.desk_words.proofs.Seen.{known_holds, seen, in_order}
 use Rattle.answer_bounds.specs.Bounds.{IsFramed, AreFramed}
 use Rattle.answer_bounds.proofs.AnswerSizes.{HasFewPorts}
 
--- ---- what messages tell of ports
+-- ---- what messages say of ports
 
 -- the ports of features have 48 bytes each
 abbrev HasWhole : Features → Type 0
@@ -92,7 +92,7 @@ read_status message = elim (cases_Bool (length message == 64)) [
 pub if_read : {A E : Type 0} (P : A → Type 0) (r : Result A E) (x : A) → r ≡ Ok x → IfOk r P → P x
 if_read P r x is h = subst (λ found. IfOk found P) is h
 
--- the ports that a message tells of have 48 bytes each
+-- the ports that a message reports have 48 bytes each
 abbrev pub HasWholePorts : SwitchMessage → Type 0
 HasWholePorts (says.FeaturesReply features) = HasWhole features
 HasWholePorts (says.PortStatus status) = IsWhole status

@@ -47,14 +47,14 @@ abbrev pub is_statistics : Result SwitchMessage Unread → Bool
 is_statistics (Ok (says.StatsReply part body)) = true
 is_statistics said = false
 
--- an event tells statistics
+-- an event reports statistics
 abbrev pub tells_statistics : Event → Bool
 tells_statistics (SwitchMsg message) = is_statistics (read_switch message)
 tells_statistics event = false
 
--- what follows from an event after a history is at most 262,144 bytes for the switch and 524,492 for each slice; and where it tells no statistics, at most two messages for each slice.
--- The policy may be any, accepted or not: under one that names a slice among the readers of a rule that it writes, a packet is told twice. Under an accepted one it would be one message.
--- No less holds: the messages of a flow-mod may have so many bytes, as those of 256 pieces with 119 outputs each. A slice is told 524,288 bytes of entries in at most 17 replies with 12 bytes in front, since two that follow each other have more entries than fit one: eight times flows of 88 and of 65,436 bytes, and one of 96, are told so
+-- what follows from an event after a history is at most 262,144 bytes for the switch and 524,492 for each slice. Where the event reports no statistics, it is at most two messages for each slice.
+-- The policy may be any, accepted or not: under one that names a slice among the readers of a rule that it writes, a packet is sent twice. Under an accepted one it would be one message.
+-- No less holds: the messages of a flow-mod may have so many bytes, as those of 256 pieces with 119 outputs each. A slice is sent 524,288 bytes of entries in at most 17 replies with 12 bytes in front, since two that follow each other have more entries than fit one. Eight times flows of 88 and of 65,436 bytes, and one of 96, are sent so
 pub record SendsLittle (policy : PolicyView) (h : List Timed) (timed : Timed) : Type 0 where
   pub lane : AreSmall 262144 (lane_by policy h timed)
   pub slices : (slot : ℕ) → AreSmall 524492 (sent_by policy slot h timed)

@@ -16,7 +16,7 @@ use Rattle.std.proofs.lemmas.List.Sums.{sum_by-cons, length-filter}
 use Rattle.buffer_map.specs.declared.held.Held.{Held}
 use Rattle.buffer_map.specs.Places.{AreNumbersOf}
 
--- what a search in numbers that ascend tells
+-- what a search in numbers that ascend says
 pub is_ok-searched : (xs : List ℕ) (x : ℕ) (r : Result ℕ ℕ) → IsNonDecreasing xs → IsBinarySearchResult (λ y. nat_cmp y x) xs r
     → is_ok r ≡ list_any (λ other. other == x) xs
 is_ok-searched xs x (Ok i) rise result =

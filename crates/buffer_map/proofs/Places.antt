@@ -75,7 +75,7 @@ ordinal_at count n k [] d h within = absurd (omega arith)
 ordinal_at count n zero (x ∷ xs) d h within = (h.0, h.1)
 ordinal_at count n (suc k) (x ∷ xs) d h within = let rest = ordinal_at count x.ordinal k xs d h.2 (omega arith) in (omega (arith, h.0, rest.0), rest.1)
 
--- whether one is past is told by the oldest
+-- the oldest shows whether one is past
 past_oldest : (count n : ℕ) (xs : List Held) (d : Held) → IsInOrder count n xs → 0 < length xs
     → list_any (λ b. not (is_recent (count + 1) b)) xs ≡ nat_le 256 (count - (get_or xs (length xs - 1) d).ordinal)
 past_oldest count n [] d h some = absurd (omega arith)

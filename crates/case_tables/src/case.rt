@@ -20,8 +20,8 @@
 //! - `: fails 2`: the sink's call with this number, from 0 on, fails
 //! - `: bytes`: each case is played once more, with a record for each byte of the connections; `: whole`: it isn't
 //! - `: read`: each line to come is a row, `priority = 1 => ok 2 1`: what stands in the place of `...` in the policy,
-//!   and what is told of reading it; or that alone
-//! - `: print`: what is told of the policy's text when it is read and printed
+//!   and what is said of reading it; or that alone
+//! - `: print`: what is said of the policy's text when it is read and printed
 //! - `: forms`: each line to come is a row of words and of what they are read as, `check|P => Check { policy: "P" }`
 
 use crate::fault::Fault;

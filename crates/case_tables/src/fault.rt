@@ -7,7 +7,7 @@ use std::io;
 #[derive(Clone, Copy)]
 pub(crate) enum Fault {
     Memory,
-    /// A file can't be read, or what is told can't be written.
+    /// A file can't be read, or what is said can't be written.
     Outside,
     /// A line has no form.
     Bad(&'static str),

@@ -1,8 +1,8 @@
 //! Plays tables of cases: `case_tables NAMES TABLE..`. The first file has names and what they stand for, the others
-//! have tables, whose form `case` tells. A case is a whole call of the program over files and sinks in memory, a
-//! policy that is read or printed, or words that are read. For each table a line is printed, with how many calls were
-//! as they should be; of each other one, what was wanted and what came. The exit status is 1 where there is such a
-//! one, and where a file can't be read or isn't of that form.
+//! have tables, whose form `case` says. A case is a whole call of the program over files and sinks in memory,
+//! a policy that is read or printed, or words that are read. For each table a line is printed, with how many
+//! calls were as they should be; of each other one, what was wanted and what came. The exit status is 1 where
+//! there is such a one, and where a file can't be read or isn't of that form.
 #![tactic(auto)]
 
 mod calls;

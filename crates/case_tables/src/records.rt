@@ -1,6 +1,7 @@
 //! Recordings that are made of steps: `switch up`, `alice up`, what the switch or a slice's controller says, as
 //! digits, `bob down`; `at 3`, from which on the steps are of switch 3; `moment 1000`, from which on they come at that
-//! moment, in milliseconds; `raw` and `file`, with the bytes of records, and of a file from its first byte on.
+//! timestamp, in milliseconds; `raw` and `file`, with the bytes of records, and of a file from its first byte
+//! on.
 
 use crate::fault::Fault;
 use std::alloc::Global;
@@ -24,7 +25,8 @@ pub(crate) fn bytes_of(alloc: Global, digits: &str) -> Result<Vec<u8>, Fault> {
     }
 }
 
-/// A recording that is made, the switch that is spoken of, and the moment. It begins at switch 0 and moment 0.
+/// A recording that is made, the switch that is spoken of, and the timestamp. It begins at switch 0 and
+/// timestamp 0.
 #[derive(Drop)]
 struct Maker {
     alloc: Global,
@@ -58,7 +60,8 @@ impl Maker {
         Ok(())
     }
 
-    /// A connection comes, says something, or goes. The kinds of its records follow each other from the first on.
+    /// A connection begins, says something, or ends. The kinds of its records follow each other from the
+    /// first on.
     fn put_event(&mut self, first: u8, slot: u8, event: &str) -> Result<(), Fault> {
         match event {
             "up" => self.put_record(first, slot, &[]),

@@ -15,7 +15,7 @@ pub(crate) struct Sheet<'a> {
     name: Option<String>,
     case: Case,
     tally: Tally,
-    /// What is told of the tables before.
+    /// What is said of the tables before.
     pub(crate) told: String,
     /// Whether all of it came as it should.
     pub(crate) is_well: bool,
@@ -48,7 +48,7 @@ impl<'a> Sheet<'a> {
         }
     }
 
-    /// Plays what is left of the table, if there is one, and tells what came of it.
+    /// Plays what is left of the table, if there is one, and says what came of it.
     pub(crate) fn end_table(&mut self) -> Result<(), Fault> {
         self.end_case()?;
         if let Some(name) = &self.name {

@@ -1,4 +1,4 @@
-//! Cases that are played, and what is told of those that came otherwise.
+//! Cases that are played, and what is said of those that came otherwise.
 
 use crate::calls::answer;
 use crate::case::{Act, Case};
@@ -7,7 +7,7 @@ use crate::records::Cut;
 use crate::telling::{form_text, print_text, read_with};
 use std::alloc::Global;
 
-/// How many calls of a table came as they should, and what is told of the others.
+/// How many calls of a table came as they should, and what is said of the others.
 #[derive(Drop)]
 pub(crate) struct Tally {
     alloc: Global,
@@ -24,7 +24,7 @@ impl Tally {
         }
     }
 
-    /// What is told of the table of this name.
+    /// What is said of the table of this name.
     pub(crate) fn told(&self, name: &str) -> Result<String, Fault> {
         let Tally { count, .. } = self;
         let differences = self.differences.as_str();

@@ -1,4 +1,4 @@
-//! What is told of policies that are read and printed, and of words that are read.
+//! What is said of policies that are read and printed, and of words that are read.
 
 use crate::calls::words_in;
 use crate::fault::Fault;
@@ -18,7 +18,7 @@ fn fault_text(alloc: Global, fault: ReadFault) -> Result<String, AllocError> {
     }
 }
 
-/// What is told of reading the policy: how many slices and rules it has, or what is wrong with it.
+/// What is said of reading the policy: how many slices and rules it has, or what is wrong with it.
 fn read_text(alloc: Global, text: &[u8]) -> Result<String, AllocError> {
     match read(alloc, text) {
         Ok(policy) => { format!(in alloc; "ok {} {}", policy.slices().len(), policy.rules().len()) }
@@ -48,8 +48,8 @@ fn printed(alloc: Global, text: &[u8]) -> Result<String, Fault> {
     Ok(String::from_str(alloc, text)?)
 }
 
-/// What is told of printing the policy that is read of the text: that its text is the same, and the same once more;
-/// or else the text.
+/// What is said of printing the policy that is read of the text: that its text is the same, and the same once
+/// more; or else the text.
 pub(crate) fn print_text(alloc: Global, text: &[u8]) -> Result<String, Fault> {
     let once = printed(alloc, text)?;
     let twice = printed(alloc, once.as_bytes())?;
@@ -60,7 +60,7 @@ pub(crate) fn print_text(alloc: Global, text: &[u8]) -> Result<String, Fault> {
     }
 }
 
-/// What is told of reading the words.
+/// What is said of reading the words.
 pub(crate) fn form_text(alloc: Global, words: &str) -> Result<String, Fault> {
     let words = words_in(alloc, words)?;
     Ok(match read_words(&words) {

@@ -23,7 +23,7 @@ use Rattle.change_words.specs.BookOrder.{in_book_order}
 
 -- ---- the plan for one switch
 
--- what is booked for the slice at a slot after a history, on a switch that told these features, in a book's order
+-- what is booked for the slice at a slot after a history, on a switch that said these features, in a book's order
 unfoldable pub booked_after : PolicyView → List Timed → Features → ℕ → List Booked
 booked_after policy h features slot =
     (let s = settings_at policy slot (Some features) in in_book_order (book (book_calls s (past_of s (view_of policy slot h)))))
@@ -36,7 +36,7 @@ books_after policy h features = map (λ one. booked_after policy h features one.
 abbrev pub policy_on : ℕ → PolicyView → SwitchView
 policy_on datapath policy = record { slices = policy.slices; rules = rules_on datapath policy.rules; swaps = swaps_on datapath policy.swaps }
 
--- the plan for a switch that told these features; none where it told none
+-- the plan for a switch that said these features; none where it said none
 abbrev pub plan_told : PolicyView → PolicyView → List Timed → Option Features → List FlowMod
 plan_told old new h None = []
 plan_told old new h (Some features) = plan_of (policy_on features.datapath new) old.slices (books_after old h features)

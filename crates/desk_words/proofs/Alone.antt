@@ -1,4 +1,4 @@
--- Before the switch tells what it is a slice sees nothing; and what a slice is sent over a history is what it is sent alone over its view.
+-- Before the switch says what it is a slice sees nothing; and what a slice is sent over a history is what it is sent alone over its view.
 use Rattle.std.proofs.Common.{◌≡◌, ℕ, Bool, true, false, cond, if◌then◌else◌, List, [], ◌∷◌, ◌++◌, refl, ap, ap₂, sym, ◌∙◌, true≢false, Option, Some, None}
 use Rattle.of10_model.proofs.Results.{either_none}
 use Rattle.of10_port.specs.declared.features.Features.{Features}
@@ -17,7 +17,7 @@ use Rattle.desk_words.specs.Laws.{IsAlone, AreAlike, IsBlindBefore}
 
 -- ---- the opening
 
--- whether the switch has told what it is
+-- whether the switch has said what it is
 abbrev pub has_told : Option Features → Bool
 has_told None = false
 has_told (Some features) = true
@@ -31,7 +31,7 @@ told_still : (told : Option Features) (phase : Phase) (event : Event) → has_to
 told_still None phase event has = absurd (true≢false (sym has))
 told_still (Some features) phase event has = has
 
--- what opens the desk tells what the switch is
+-- what opens the desk says what the switch is
 told_first : (told : Option Features) (message : List ℕ) → has_told (features_told message) ≡ true → has_told (opening_after Begun told (SwitchMsg message)) ≡ true
 told_first None message has = has
 told_first (Some features) message has = refl
@@ -118,7 +118,7 @@ early_unsent : (b : Bool) (s : Settings) (items : List Item) → sent_for s [] i
 early_unsent true s items none = none
 early_unsent false s items none = refl
 
--- the settings stay once the switch has told what it is
+-- the settings stay once the switch has said what it is
 settings_stay : (policy : PolicyView) (slot : ℕ) (phase : Phase) (told : Option Features) (event : Event) → has_told told ≡ true
     → settings_at policy slot (opening_after phase told event) ≡ settings_at policy slot told
 settings_stay policy slot phase None event has = absurd (true≢false (sym has))
@@ -131,7 +131,7 @@ unsent_before s policy slot switch side timed start shut =
     ap (λ (other : SliceSide). sent_for s other.sight.view (items_of policy slot switch other timed)) start
     ∙ early_unsent (is_slot policy slot) s (phase_items policy slot switch side_start timed switch.phase) (early_in s policy slot switch timed switch.phase shut)
 
--- one event more, by whether the switch has told what it is
+-- one event more, by whether the switch has said what it is
 alone_after : (policy : PolicyView) (slot : ℕ) (timed : Timed) (h : List Timed) (told : Option Features) → opening_of h ≡ told → IsAlone policy slot h → IsAlone policy slot (timed ∷ h)
 alone_after policy slot timed h (Some features) is before =
     let stay = settings_stay policy slot (phase_of h) (opening_of h) timed.event (ap has_told is) in

@@ -14,7 +14,7 @@ use Rattle.desk_words.specs.Histories.{is_open}
 use Rattle.desk_words.specs.Verdicts.{is_fresh, is_ended, is_switch_up}
 use Rattle.desk_words.specs.Laws.{has_begun, is_last, has_ended, first_told, IsPhaseByEvents}
 
--- what events say: whether the switch has connected and ended, and what it told first; beside that the phase and the opening
+-- what events say: whether the switch has connected and ended, and what it said first; beside that the phase and the opening
 record Says (begun ended : Bool) (told : Option Features) (phase : Phase) (opening : Option Features) : Type 0 where
   freshly : is_fresh phase ≡ not begun
   finally : is_ended phase ≡ ended

@@ -33,9 +33,9 @@ use Rattle.desk_words.specs.Laws.{HasSeen, SeesItsSwitch, AreKnownInOrder}
 use Rattle.desk_words.proofs.Alone.{blind}
 use Rattle.desk_words.proofs.Silence.{none_or, none_of_packet, NoReply, NoOther, none_of_others, untold}
 
--- ---- items that tell nothing of the switch
+-- ---- items that say nothing of the switch
 
--- an item tells of the switch's features or of its ports
+-- an item says the switch's features or reports its ports
 abbrev tells_switch : Item → Bool
 tells_switch (Told features) = true
 tells_switch (Status status) = true
@@ -105,7 +105,7 @@ by_status s view known status order same = record {
   ports_follow = own_after (own_rules s) s.slot view status known (kept_of status known) (has_port (own_rules s) s.slot (port_number status.port)) refl refl order same;
 }
 
--- items that tell nothing of the switch, where the ports stay
+-- items that say nothing of the switch, where the ports stay
 by_untelling : (s : Settings) (view items : List Item) (known now : List (List ℕ)) → list_any tells_switch items ≡ false → now ≡ known → known_ports view ≡ own_ports s known
     → Follows s view (with_items items view) now
 by_untelling s view items known now none stay same =
@@ -162,7 +162,7 @@ known_begun known told = elim told [ None ↦ known | Some features ↦ first_kn
 
 -- ---- what holds of the known ports
 
--- a property holds of no ports, of those that a message's features tell, and still with a message's status
+-- a property holds of no ports, of those that a message's features say, and still with a message's status
 pub record HoldsOfPorts (P : List (List ℕ) → Type 0) : Type 0 where
   pub none : P []
   pub first : (message : List ℕ) → IfSome (features_told message) (λ features. P (first_known features.ports))
@@ -231,7 +231,7 @@ seen_first policy slot switch timed (SliceDown other) Begun features e told = ab
 seen_first policy slot switch timed (SwitchMsg message) Begun features e told =
     rw (e, told) (refl, ap (own_ports (settings_at policy slot (Some features))) (sym (ap (known_begun switch.known) told)))
 
--- an event more, once the switch has told what it is
+-- an event more, once the switch has said what it is
 seen_more : (policy : PolicyView) (slot : ℕ) (h : List Timed) (timed : Timed) (features : Features) → opening_of h ≡ Some features → is_slot policy slot ≡ true
     → HasSeen policy slot features (ports_after h) (view_of policy slot h) → HasSeen policy slot features (ports_after (timed ∷ h)) (view_of policy slot (timed ∷ h))
 seen_more policy slot h timed features is here before =
@@ -254,7 +254,7 @@ seen_now policy slot h timed features is here told =
       ports_known = rw here (ap (λ (side : SliceSide). known_ports (with_items (phase_items policy slot (switch_of h) side timed (phase_of h)) side.sight.view)) start ∙ both.1);
     }
 
--- by whether the switch had told what it is before
+-- by whether the switch had said what it is before
 seen_by : (policy : PolicyView) (slot : ℕ) (h : List Timed) (timed : Timed) (features : Features) (told : Option Features) → opening_of h ≡ told → is_slot policy slot ≡ true
     → SeesItsSwitch policy slot h features → opening_after (phase_of h) told timed.event ≡ Some features → HasSeen policy slot features (ports_after (timed ∷ h)) (view_of policy slot (timed ∷ h))
 seen_by policy slot h timed features None is here before now = seen_now policy slot h timed features is here now
@@ -301,7 +301,7 @@ few_after Opened told known (SliceUp slot) early few has = few
 few_after Opened told known (SliceMsg slot message) early few has = few
 few_after Opened told known (SliceDown slot) early few has = few
 
--- what is told first is told from then on
+-- what is said first is said from then on
 few_before : (phase : Phase) (told : Option Features) (event : Event) → HasFew (opening_after phase told event) → HasFew told
 few_before phase None event has = tt
 few_before phase (Some features) event has = has

@@ -1,4 +1,4 @@
--- What a report tells a slice since a switch came up last.
+-- What a report says a slice is sent since a switch connected last.
 use Rattle.std.proofs.Common.{◌≡◌, ℕ, zero, suc, ◌==◌, ◌&&◌, ◌||◌, not, Bool, true, false, if◌then◌else◌, List, [], ◌∷◌, ◌++◌, map, take, reverse, refl, ap, ap₂, sym, subst, ◌∙◌, append_assoc, append-nil, eq-eqb, eqb-true}
 use Rattle.std.proofs.lemmas.Bool.{or_parts}
 use Rattle.std.specs.List.{list_any}
@@ -21,14 +21,14 @@ use Rattle.recording.proofs.Refused.{newest_first}
 use Rattle.desk_words.proofs.Making.{made_where, made_next, makes_the_first, happened_each, at_their_switch}
 use Rattle.desk_words.proofs.Reporting.{each_next, happened_after, next_happened, from_none}
 
--- ---- what is told and what is sent
+-- ---- what is reported and what is sent
 
 sent_next : (policy : PolicyView) (slot : ℕ) (h : List Timed) (timed : Timed) (over : Bool) → is_over h ≡ over
     → sent policy slot (next_of h timed) ≡ sent policy slot h ++ sent_to_slice policy slot h timed
 sent_next policy slot h timed true is = rw is (sym (append-nil (sent policy slot h)))
 sent_next policy slot h timed false is = rw is refl
 
--- what was sent after events is what was sent before them, and what they tell
+-- what was sent after events is what was sent before them, and what is reported of them
 sent_after : (policy : PolicyView) (slot switch : ℕ) (h own : List Timed) → sent policy slot (next_after h own) ≡ sent policy slot h ++ told_over policy slot (each_after switch h own)
 sent_after policy slot switch h [] = sym (append-nil (sent policy slot h))
 sent_after policy slot switch h (timed ∷ later) =
@@ -114,7 +114,7 @@ none_of_kind r before other =
 
 -- ---- one record after others
 
--- these events tell a slice what it is sent over the switch's history
+-- what these events send a slice is what it is sent over the switch's history
 abbrev AreTold : PolicyView → ℕ → ℕ → List Happened → List Told → Type 0
 AreTold policy slot switch events before = told_over policy slot (since_up switch events) ≡ sent policy slot (history_of policy switch before)
 

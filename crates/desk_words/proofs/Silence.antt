@@ -1,4 +1,4 @@
--- A slice that is down is sent nothing until it comes up.
+-- A slice that is down is sent nothing until it connects.
 use Rattle.std.proofs.Common.{◌≡◌, ℕ, ◌%◌, ◌^◌, ◌==◌, ◌&&◌, ◌||◌, Bool, true, false, cond, if◌then◌else◌, List, [], ◌∷◌, ◌++◌, map, refl, ap, ap₂, sym, ◌∙◌, append-nil, true≢false, Option, Some, None, option_and_then, inl, inr, ◌⊎◌, Result, Ok, Err}
 use Rattle.std.proofs.lemmas.Bool.{and_right, eq-eqb, or_parts}
 use Rattle.std.proofs.lemmas.Option.{none-some}
@@ -69,14 +69,14 @@ none_of_packet test policy rules slot side packet none lost =
 
 -- ---- items that say nothing of the connection
 
--- none of the items says that the slice came up, went down, or sent a message that ends its connection
+-- none of the items says that the slice connected, disconnected, or sent a message that ends its connection
 abbrev pub are_plain : List Item → Bool
 are_plain items = list_any is_forgetting items
 
 plain_status : (s : Settings) (known : List (List ℕ)) (status : PortStatus) → are_plain (status_items s known status) ≡ false
 plain_status s known status = none_or is_forgetting (is_kept status known && is_own_port s.slot s.patterns (port_number status.port)) (Status status ∷ []) refl
 
--- an entry that is gone, and an error, show a slice nothing but itself
+-- an entry that was removed, and an error, show a slice nothing but itself
 pub none_of_removed : (test : Item → Bool) (s : Settings) (entry : FlowRemoved) → ((other : FlowRemoved) → test (Removed other) ≡ false) → list_any test (removed_items s entry) ≡ false
 none_of_removed test s entry none =
     none_or test (list_any (λ pattern. includes_of pattern entry.pattern) s.patterns) (Removed (record entry { xid = 0 }) ∷ [])
@@ -113,14 +113,14 @@ none_of_statistics test s xid part body none =
     none_or test (is_reply_to s xid && is_part part.kind body) (part_items s (xid % 2 ^ 24) part body)
     (none_of_part test s (xid % 2 ^ 24) part body none)
 
--- nor does the end, an entry that is gone, or an error
+-- nor does the end, an entry that was removed, or an error
 pub record NoOther (test : Item → Bool) : Type 0 where
   pub end : test End ≡ false
   pub removed : (entry : FlowRemoved) → test (Removed entry) ≡ false
   pub fault : (x class code : ℕ) (pair : Option (Pattern × ℕ)) → test (Fault x class code pair) ≡ false
   pub reply : NoReply test
 
--- a message that hands up no packet and tells of no port shows nothing else
+-- a message that hands up no packet and reports no port shows nothing else
 pub none_of_others : (test : Item → Bool) (policy : PolicyView) (slot : ℕ) (switch : KnownSwitch) (side : SliceSide) (xid : ℕ) (said : Result SwitchMessage Unread) → NoOther test → packet_said said ≡ None → status_said said ≡ None
     → list_any test (said_items policy slot switch side xid said) ≡ false
 none_of_others test policy slot switch side xid (Err BadLength) none no_packet no_status = ap (λ (one : Bool). one || false) none.end

@@ -35,12 +35,12 @@ one_more : (features : Features) (status : PortStatus) (known : List (List ℕ))
 unfolding known_by
 one_more features status known statuses is = ap (changed status) is
 
--- what was told, or else this
+-- what was said, or else this
 abbrev features_or : Option Features → Features → Features
 features_or None features = features
 features_or (Some told) features = told
 
--- a message before the opening, by what it tells of the switch
+-- a message before the opening, by what it says of the switch
 by_opening : (now : Option Features) (known : List (List ℕ)) (statuses : List PortStatus) → AreBy None known statuses
     → AreBy now (elim now [ None ↦ known | Some features ↦ first_known features.ports ]) statuses
 by_opening None known statuses are = are
@@ -50,7 +50,7 @@ by_opening (Some features) known statuses are = record {
   since = λ other is. first features statuses (are.none_came refl) ∙ ap (λ (told : Option Features). known_by (features_or told features) statuses) is;
 }
 
--- a message since, by what it tells of a port
+-- a message since, by what it says of a port
 by_status : (now : Option PortStatus) (opening : Features) (known : List (List ℕ)) (statuses : List PortStatus) → AreBy (Some opening) known statuses
     → AreBy (Some opening) (elim now [ None ↦ known | Some status ↦ changed status known ]) (cons_option now statuses)
 by_status None opening known statuses are = are

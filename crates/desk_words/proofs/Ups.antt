@@ -28,7 +28,7 @@ by_message true true false message moment view now last is same off d = rw d (is
 by_message true false true message moment view now last is same off d = is ∙ sym off
 by_message true false false message moment view now last is same off d = is ∙ same
 
--- its connection comes or goes
+-- its connection begins or ends
 by_item : (own : Bool) (item : Item) (view : List Item) (now last : Bool) → is_up view ≡ last → (own ≡ true → is_up (item ∷ view) ≡ now)
     → is_up (with_items (if own then item ∷ [] else []) view) ≡ (if own then now else last)
 by_item true item view now last same tells = tells refl

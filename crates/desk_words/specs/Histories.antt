@@ -43,7 +43,7 @@ use Rattle.desk_words.specs.Openings.{opening_with, rules_of, swaps_of, KnownSwi
 abbrev pub is_slot : PolicyView → ℕ → Bool
 is_slot policy slot = ltb slot (length policy.slices)
 
--- the settings of the slice at a slot on a switch that told this of itself
+-- the settings of the slice at a slot on a switch that said this of itself
 abbrev pub settings_at : PolicyView → ℕ → Option Features → Settings
 settings_at policy slot told =
     elim (slice_get policy.slices slot) [
@@ -58,7 +58,7 @@ pub record Numbered : Type 0 where
   pub number : ℕ
   pub ordinal : Option ℕ
 
--- what a slice sees, and beside it all packet-ins with numbers since the opening, newest first, by which it can be told when a number of one of its packets is used again
+-- what a slice sees, and beside it all packet-ins with numbers since the opening, newest first. These show when a number of one of the slice's packets is used again
 pub record SliceSide : Type 0 where
   pub sight : Sight
   pub numbered : List Numbered
@@ -149,7 +149,7 @@ packet_in_items policy rules slot side packet = lost_items side.numbered packet 
 abbrev pub status_items : Settings → List (List ℕ) → PortStatus → List Item
 status_items s known status = if is_kept status known && is_own_port s.slot s.patterns (port_number status.port) then Status status ∷ [] else []
 
--- an entry that is gone is shown to a slice of which one write rule has all of its match
+-- a removed entry is shown to a slice of which one write rule has all of its match
 abbrev pub removed_items : Settings → FlowRemoved → List Item
 removed_items s entry = if list_any (λ pattern. includes_of pattern entry.pattern) s.patterns then Removed (record entry { xid = 0 }) ∷ [] else []
 
@@ -181,7 +181,7 @@ kept_entries rules slot kind body = filter (is_own_entry rules slot kind) (entri
 abbrev pub own_entries : Settings → ℕ → List ℕ → List (List ℕ)
 own_entries s kind body = kept_entries (own_rules s) s.slot kind body
 
--- what the switch is is told whole in one entry, and in no other form; other statistics come in any number of entries
+-- what the switch is is said whole in one entry, and in no other form; other statistics come in any number of entries
 abbrev pub is_part : ℕ → List ℕ → Bool
 is_part kind body = is_type_asked kind && (not (kind == statistics.DESC) || length body == 1056)
 
@@ -205,7 +205,7 @@ said_items policy slot switch side xid (Ok (says.QueueGetConfigReply queues)) = 
 said_items policy slot switch side xid (Ok (says.StatsReply part body)) = statistics_items (settings_at policy slot switch.features) xid part body
 said_items policy slot switch side xid said = []
 
--- a message of the switch that came after it told what it is
+-- a message of the switch, which came after the switch had said what it is
 unfoldable pub message_items : PolicyView → ℕ → KnownSwitch → SliceSide → List ℕ → List Item
 message_items policy slot switch side message = said_items policy slot switch side (xid_of message) (read_switch message)
 
@@ -236,7 +236,7 @@ items_of policy slot switch side timed = if is_slot policy slot then phase_items
 
 -- ---- what a history shows a slice
 
--- the packet that an event hands up, once the switch has told what it is
+-- the packet that an event hands up, once the switch has said what it is
 abbrev pub packet_handed : Phase → Event → Option PacketIn
 packet_handed Opened (SwitchMsg message) = packet_in_read message
 packet_handed phase event = None
@@ -288,7 +288,7 @@ abbrev pub is_open : Phase → Bool
 is_open Opened = true
 is_open phase = false
 
--- a slice with a view is up in a phase: the switch has told what it is and hasn't ended, and the slice's connection came and hasn't gone
+-- a slice with a view is up in a phase: the switch has said what it is and hasn't ended, and the slice's connection began and hasn't ended
 abbrev pub is_up_in : Phase → List Item → Bool
 is_up_in phase view = is_open phase && is_up view
 

@@ -34,7 +34,7 @@ use Rattle.desk_words.specs.Reports.{sent_to_slice, told_over, LinePlace, lane_l
 abbrev pub has_begun : List Timed → Bool
 has_begun h = list_any (λ timed. is_switch_up timed.event) h
 
--- an event of the switch that ends its connection: it is gone, or sent a message whose length field doesn't even count the header (OpenFlow 1.0.0, section 5.1)
+-- an event of the switch that ends its connection: the switch disconnected, or sent a message whose length field doesn't even count the header (OpenFlow 1.0.0, section 5.1)
 abbrev pub is_last : Event → Bool
 is_last SwitchDown = true
 is_last (SwitchMsg message) = is_bad message
@@ -45,7 +45,7 @@ abbrev pub has_ended : List Timed → Bool
 has_ended [] = false
 has_ended (timed ∷ h) = has_ended h || (has_begun h && is_last timed.event)
 
--- what the switch told of itself first, after it connected and before it ended
+-- what the switch said of itself first, after it connected and before it ended
 abbrev pub first_told : List Timed → Option Features
 first_told [] = None
 first_told (timed ∷ h) = option_or (first_told h) (if has_begun h && not (has_ended h) then features_in_event timed.event else None)
@@ -95,7 +95,7 @@ IsErasable policy slot h = IsServedTheSame policy slot (erased slot h) h
 
 -- ---- before the opening, and while a slice is down
 
--- before the switch tells what it is, a slice sees nothing
+-- before the switch says what it is, a slice sees nothing
 abbrev pub IsBlindBefore : PolicyView → ℕ → List Timed → Type 0
 IsBlindBefore policy slot h = opening_of h ≡ None → side_of policy slot h ≡ side_start
 
@@ -126,12 +126,12 @@ IsDownAfterDown policy slot moment h = is_slice_up policy slot (timed_at moment 
 
 -- ---- who is up, by the events
 
--- the events that came after the switch had told what it is
+-- the events that came after the switch had said what it is
 abbrev pub after_opening : List Timed → List Timed
 after_opening [] = []
 after_opening (timed ∷ h) = if is_open (phase_of h) then timed ∷ after_opening h else after_opening h
 
--- an event says that the slice's connection came, went, or sent a message that ends it
+-- an event says that the slice connected, disconnected, or sent a message that ends its connection
 abbrev pub tells_of : ℕ → Event → Bool
 tells_of slot (SliceUp other) = other == slot
 tells_of slot (SliceMsg other message) = other == slot && is_dismissing message
@@ -143,7 +143,7 @@ abbrev pub is_last_event_up : ℕ → List Timed → Bool
 is_last_event_up slot [] = false
 is_last_event_up slot (timed ∷ before) = is_up_of slot timed
 
--- a slice is up where the switch has told what it is and hasn't ended, and the last event since that says so is the slice's up
+-- a slice is up where the switch has said what it is and hasn't ended, and the last event since that says so is the slice's up
 abbrev pub IsUpByEvents : PolicyView → ℕ → List Timed → Type 0
 IsUpByEvents policy slot h =
     is_slot policy slot ≡ true
@@ -227,7 +227,7 @@ pub record HasSeen (policy : PolicyView) (slot : ℕ) (features : Features) (kno
   pub features_seen : features_in view ≡ Some (own_features (settings_at policy slot (Some features)) features)
   pub ports_known : known_ports view ≡ own_ports (settings_at policy slot (Some features)) known
 
--- so it is for each slice of the policy once the switch has told what it is
+-- so it is for each slice of the policy once the switch has said what it is
 abbrev pub SeesItsSwitch : PolicyView → ℕ → List Timed → Features → Type 0
 SeesItsSwitch policy slot h features = opening_of h ≡ Some features → is_slot policy slot ≡ true → HasSeen policy slot features (ports_after h) (view_of policy slot h)
 
@@ -238,16 +238,16 @@ pub record AreKnownInOrder (h : List Timed) : Type 0 where
 
 -- ---- the known ports, by the events
 
--- what an event tells of a port (section 5.4.3)
+-- what an event reports of a port (section 5.4.3)
 abbrev pub status_in_event : Event → Option PortStatus
 status_in_event (SwitchMsg message) = status_told message
 status_in_event event = None
 
--- the statuses that the switch sent since it told what it is, newest first
+-- the statuses that the switch sent since it said what it is, newest first
 abbrev pub statuses_since : List Timed → List PortStatus
 statuses_since h = filter_map (λ timed. status_in_event timed.event) (after_opening h)
 
--- no port is known before the switch tells what it is; then those are known that follow from its features and its statuses since
+-- no port is known before the switch says what it is; then those are known that follow from its features and its statuses since
 pub record AreKnownAsTold (h : List Timed) : Type 0 where
   pub before : opening_of h ≡ None → ports_after h ≡ []
   pub since : (features : Features) → opening_of h ≡ Some features → ports_after h ≡ known_by features (statuses_since h)
@@ -289,7 +289,7 @@ first_events policy earlier later = take (length (all_happened policy earlier)) 
 abbrev pub ComeBeforeLater : PolicyView → List Told → List Told → Type 0
 ComeBeforeLater policy earlier later = first_events policy earlier later ≡ all_happened policy earlier
 
--- the lines of an event are those for the switch, and by slot those of each slice's name for what it is told; then the connection that is closed, and the end
+-- the lines of an event are those for the switch, and by slot those of each slice's name for what it is sent; then the connection that is closed, and the end
 abbrev pub ShowsEachSlice : PolicyView → LinePlace → List Timed → Timed → Type 0
 ShowsEachSlice policy place h timed =
     event_lines policy place h timed
@@ -302,7 +302,7 @@ ShowsEachSlice policy place h timed =
 abbrev pub IsClosedByVerdict : PolicyView → ℕ → List Timed → Timed → Type 0
 IsClosedByVerdict policy slot h timed = speaker timed.event ≡ Some slot → is_slice_up policy slot (timed ∷ h) ≡ not (closes policy h timed)
 
--- a switch comes up
+-- a switch connects
 abbrev pub comes_up : ℕ → Happened → Bool
 comes_up switch one = one.switch == switch && is_switch_up one.timed.event
 
@@ -311,7 +311,7 @@ abbrev pub since_up : ℕ → List Happened → List Happened
 since_up switch [] = []
 since_up switch (one ∷ later) = if one.switch == switch && not (list_any (comes_up switch) later) then one ∷ since_up switch later else since_up switch later
 
--- what these events of records tell a slice from a switch's last up on is what a proxy sends that serves it alone, with its settings on its view of the switch's history
+-- what these events of records send a slice from a switch's last up on is what a proxy sends that serves it alone, with its settings on its view of the switch's history
 abbrev pub TellAsAlone : PolicyView → ℕ → ℕ → List Told → List Happened → Type 0
 TellAsAlone policy slot switch records events =
     let h = history_of policy switch (reverse records) in

@@ -122,12 +122,12 @@ abbrev pub message_taken : Taken → Option (List ℕ)
 message_taken (Message message) = Some message
 message_taken taken = None
 
--- no message will come for a destination, where the switch's connection is in a phase and those of the slices are so up: the switch's has ended, there is no such slot, or the slice isn't up though the switch has told what it is
+-- no message will come for a destination, where the switch's connection is in a phase and those of the slices are so up. The switch's connection has ended, there is no such slot, or the slice isn't up though the switch has said what it is
 abbrev pub is_gone : PolicyView → Phase → (ℕ → Bool) → Dest → Bool
 is_gone policy phase slice_up Switch = is_ended phase
 is_gone policy phase slice_up (Slice slot) = is_ended phase || not (is_slot policy slot) || (is_open phase && not (slice_up slot))
 
--- it is too early for a destination: the switch hasn't connected, or for a slice hasn't told what it is
+-- it is too early for a destination: the switch hasn't connected, or for a slice hasn't said what it is
 abbrev pub is_early : Phase → Dest → Bool
 is_early phase Switch = is_fresh phase
 is_early phase (Slice slot) = not (is_open phase)

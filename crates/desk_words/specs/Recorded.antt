@@ -35,11 +35,11 @@ completed r before = drop (length (frames_of (stream_before r before))) (frames_
 
 -- ---- events
 
--- an event comes at the moment of its record, in milliseconds
+-- an event comes at the timestamp of its record, in milliseconds
 abbrev pub timed_at : ℕ → Event → Timed
 timed_at moment event = record { event = event; moment = moment }
 
--- what a record can make happen: a connection comes or goes, or messages come
+-- what a record can make happen: a connection begins or ends, or messages come
 abbrev pub happenings : Told → List Told → List Event
 happenings r before =
     if r.kind == switch_up then SwitchUp ∷ []
@@ -66,7 +66,7 @@ next_after h (timed ∷ later) = next_after (next_of h timed) later
 
 -- ---- all that happened
 
--- an event of a recording: its switch, the history of that switch before it, and the event with its moment
+-- an event of a recording: its switch, the history of that switch before it, and the event with its timestamp
 pub record Happened : Type 0 where
   pub switch : ℕ
   pub history : List Timed
@@ -80,11 +80,11 @@ each_after switch h events = map (λ one. record { switch = switch; history = ne
 abbrev pub happened_from : PolicyView → Told → List Told → List Timed → List Happened
 happened_from policy r before h = take_while (λ one. happens policy one.history one.timed.event) (each_after r.switch h (map (timed_at r.moment) (happenings r before)))
 
--- these events alone, with their moments
+-- these events alone, with their timestamps
 abbrev pub timed_of : List Happened → List Timed
 timed_of events = map (λ one. one.timed) events
 
--- the history at which a record of a switch begins: that of the switch, or none where the switch comes up, for which there is a fresh desk
+-- the history at which a record of a switch begins: that of the switch, or none where the switch connects, for which there is a fresh desk
 abbrev pub begun_from : Told → List Timed → List Timed
 begun_from r h = if r.kind == switch_up then [] else h
 
@@ -105,7 +105,7 @@ history_at policy r before = begun_from r (history_of policy r.switch before)
 abbrev pub happened_in : PolicyView → List Told → Told → List Happened
 happened_in policy before r = happened_from policy r before (history_at policy r before)
 
--- these events alone, with their moments
+-- these events alone, with their timestamps
 abbrev pub events_in : PolicyView → Told → List Told → List Timed
 events_in policy r before = timed_of (happened_in policy before r)
 
@@ -119,10 +119,10 @@ all_happened policy records = flat_map (λ one. happened_in policy (reverse (tak
 abbrev pub bytes_carried : List ℕ → Item → List ℕ
 bytes_carried file item = take item.size (drop item.from file)
 
--- what an item that carries these bytes tells
+-- what an item that carries these bytes says
 abbrev pub told_by : Item → List ℕ → Told
 told_by item bytes = record { kind = item.kind; switch = item.switch; slot = item.slot; moment = item.moment; bytes = bytes }
 
--- what the items of a file tell
+-- what the items of a file say
 abbrev pub told_in : List ℕ → List Item → List Told
 told_in file items = map (λ item. told_by item (bytes_carried file item)) items

@@ -24,11 +24,11 @@ sent_to_switch policy h timed = if is_over h then [] else lane_by policy h timed
 abbrev pub sent_to_slice : PolicyView → ℕ → List Timed → Timed → List (List ℕ)
 sent_to_slice policy slot h timed = if is_over h then [] else sent_by policy slot h timed
 
--- what events tell the switch, one after another
+-- what events send the switch, one after another
 abbrev pub lane_over : PolicyView → List Happened → List (List ℕ)
 lane_over policy events = flat_map (λ one. sent_to_switch policy one.history one.timed) events
 
--- and what they tell the slice at a slot
+-- and what they send the slice at a slot
 abbrev pub told_over : PolicyView → ℕ → List Happened → List (List ℕ)
 told_over policy slot events = flat_map (λ one. sent_to_slice policy slot one.history one.timed) events
 

@@ -62,7 +62,7 @@ clearing = spell_flow_mod (record {
   actions = [];
 })
 
--- what a switch that has told what it is is sent first: how to hand up packets, an empty table, and a barrier (sections 5.3.2, 5.3.3 and 5.3.7)
+-- what a switch that has said what it is is sent first: how to hand up packets, an empty table, and a barrier (sections 5.3.2, 5.3.3 and 5.3.7)
 abbrev pub preparation : List (List ℕ)
 preparation = whole_packets ∷ clearing ∷ message_of BARRIER_REQUEST 0xff000004 [] ∷ []
 
@@ -75,7 +75,7 @@ echo_said xid said = []
 abbrev pub echo_for : List ℕ → List (List ℕ)
 echo_for message = echo_said (xid_of message) (read_switch message)
 
--- what a switch is sent for a message that came before it told what it is
+-- what a switch is sent for a message that came before it said what it is
 abbrev pub begun_lane : List ℕ → List (List ℕ)
 begun_lane message = elim (features_told message) [ None ↦ echo_for message | Some features ↦ preparation ]
 

@@ -21,7 +21,7 @@ abbrev pub is_ended : Phase → Bool
 is_ended Gone = true
 is_ended phase = false
 
--- the switch hasn't told yet what it is, and may still do so
+-- the switch hasn't said yet what it is, and may still do so
 abbrev pub is_before : Phase → Bool
 is_before Fresh = true
 is_before Begun = true
@@ -31,12 +31,12 @@ is_before phase = false
 abbrev pub is_over : List Timed → Bool
 is_over h = is_ended (phase_of h) || leb (2 ^ 60) (length h)
 
--- an event tells that the switch connected
+-- an event says that the switch connected
 abbrev pub is_switch_up : Event → Bool
 is_switch_up SwitchUp = true
 is_switch_up event = false
 
--- an event that tells that a connection ended
+-- an event that says that a connection ended
 abbrev pub is_down : Event → Bool
 is_down SwitchDown = true
 is_down (SliceDown slot) = true

@@ -14,8 +14,8 @@ ghost use Rattle.desk_words.specs.Operations.{Operation, IsLegal, queue_of, lane
 ghost use Rattle.desk_words.specs.Reports.{LinePlace};
 ghost use Rattle.desk_words.specs.Laws.{IsPhaseByEvents, IsAlone, AreAlike, IsErasable, IsBlindBefore, IsSilentUntilUp, IsDownAfterDown, IsUpByEvents, sent_since, taken_since, lane_since, lane_taken_since, AreInOrder, SliceWaits, LaneWaits, AreCompletedOnce, SeesItsSwitch, AreKnownInOrder, AreKnownAsTold, MakesTheFirst, GetsTheFirst, ComeAtTheirSwitch, ComeBeforeLater, ShowsEachSlice, IsClosedByVerdict, IsToldAsAlone};
 
-/// The switch's connection has ended where, after it came, it went or a message of a bad length came; the
-/// opening is the first FEATURES_REPLY between.
+/// The switch's connection has ended where, after the switch connected, it disconnected or a message of a bad
+/// length came. The opening is the first FEATURES_REPLY between.
 pub fn phase_by_events()
     ensures { (h : List Timed) → IsPhaseByEvents h }
 {}
@@ -36,19 +36,18 @@ pub fn erasure()
     ensures { (policy : PolicyView) (slot : ℕ) (h : List Timed) → IsErasable policy slot h }
 {}
 
-/// Before the switch tells what it is a slice sees nothing.
+/// Before the switch says what it is a slice sees nothing.
 pub fn blind_before_the_opening()
     ensures { (policy : PolicyView) (slot : ℕ) (h : List Timed) → IsBlindBefore policy slot h }
 {}
 
-/// A slice isn't up after its down; and one that isn't up is sent nothing, and isn't up, until its connection
-/// comes.
+/// A slice isn't up after its down; and one that isn't up is sent nothing, and isn't up, until it connects.
 pub fn silent_until_up()
     ensures down { (policy : PolicyView) (slot moment : ℕ) (h : List Timed) → IsDownAfterDown policy slot moment h }
     ensures silent { (policy : PolicyView) (slot : ℕ) (later h : List Timed) → IsSilentUntilUp policy slot later h }
 {}
 
-/// A slice is up where the switch has told what it is and hasn't ended, and of the events since that the
+/// A slice is up where the switch has said what it is and hasn't ended, and of the events since that the
 /// last that is the slice's up, its down or a message that ends its connection is an up.
 pub fn up_by_events()
     ensures { (policy : PolicyView) (slot : ℕ) (h : List Timed) → IsUpByEvents policy slot h }
@@ -70,7 +69,7 @@ pub fn frames_are_completed_once()
     ensures { (r : Told) (before : List Told) → AreCompletedOnce r before }
 {}
 
-/// Once the switch has told what it is, a slice has seen its features, and knows its own of the known
+/// Once the switch has said what it is, a slice has seen its features, and knows its own of the known
 /// ports. Those ascend by their numbers, and are at most 1,364 where those of the opening are.
 pub fn slice_sees_its_switch()
     ensures seen { (policy : PolicyView) (slot : ℕ) (h : List Timed) (features : Features) → SeesItsSwitch policy slot h features }
@@ -83,7 +82,7 @@ pub fn held_packets_keep_their_numbers()
     ensures { (policy : PolicyView) (slot : ℕ) (s : Settings) (h : List Timed) → is_slot policy slot ≡ true → AreNumbered s (side_of policy slot h) }
 {}
 
-/// No port is known before the switch tells what it is. Then the known ports are those of its features,
+/// No port is known before the switch says what it is. Then the known ports are those of its features,
 /// changed by each status that it sent since.
 pub fn ports_are_known_as_told()
     ensures { (h : List Timed) → AreKnownAsTold h }
@@ -120,8 +119,8 @@ pub fn slice_is_closed_by_the_verdict()
     ensures { (policy : PolicyView) (slot : ℕ) (h : List Timed) (timed : Timed) → IsClosedByVerdict policy slot h timed }
 {}
 
-/// What the lines of a switch's events tell a slice from the switch's last up on is, one after the other,
-/// what a proxy sends that serves the slice alone on its view of the switch.
+/// What the lines of a switch's events say a slice is sent, from the switch's last up on, is, one after the
+/// other, what a proxy sends that serves the slice alone on its view of the switch.
 pub fn slice_is_told_as_alone()
     ensures { (policy : PolicyView) (slot switch : ℕ) (records : List Told) → IsToldAsAlone policy slot switch records }
 {}

@@ -5,7 +5,7 @@ pub enum Phase {
     Fresh,
     /// It has connected.
     Begun,
-    /// It has told what it is.
+    /// It has said what it is.
     Opened,
     /// Its connection has ended.
     Gone,

@@ -23,7 +23,7 @@ cues_from_both policy number first second =
 
 -- ---- lines among cues
 
--- lines that are told are told as cues
+-- lines that are reported are reported as cues
 said_whole : {T : Type 0} (Tells : T → Cue → Outcome → T → Type 0) (old new : T) (lines : List Line) → ToldWhole (says Tells) old lines new → ToldWhole Tells old (map Says lines) new
 said_whole Tells old new [] same = same
 said_whole Tells old new (line ∷ lines) (next, told, others) = (next, told, said_whole Tells next new lines others)

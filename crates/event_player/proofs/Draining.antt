@@ -1,4 +1,4 @@
--- Messages that are taken and told one after another.
+-- Messages that are taken and reported one after another.
 use Rattle.std.proofs.Common.{◌≡◌, ℕ, List, [], ◌∷◌, ◌++◌, map, drop, refl, sym, ap, ◌∙◌, append_assoc, Some, None, slice_get, subst, Result, Ok, Err}
 use Rattle.std.specs.Result.{IsErrAnd}
 use Rattle.std.proofs.lemmas.List.{append-nil}
@@ -10,7 +10,7 @@ use Rattle.event_player.specs.Telling.{Outcome}
 use Rattle.event_player.specs.Players.{Scene, IsPlaying, HasTold}
 use Rattle.event_player.proofs.Players.{told_nothing, told_second, told_first, told_as, told_so}
 
--- of the messages that waited these are left, and the lines of the others are told
+-- of the messages that waited these are left, and the lines of the others are reported
 pub record Drained {T : Type 0} (Tells : T → Line → Outcome → T → Type 0) (scene : Scene) (IsLeft : List (List ℕ) → Type 0) (line : List ℕ → Line) (messages : List (List ℕ)) (before now : Player T) : Type 0 where
   pub left : List (List ℕ)
   pub holds : IsLeft left

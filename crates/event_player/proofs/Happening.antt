@@ -69,7 +69,7 @@ by_kind policy r before false false false false false a b c d = (λ h. refl, tt)
 apart : (kind one other : ℕ) → (one == other) ≡ false → (kind == one) ≡ true → (kind == other) ≡ false
 apart kind one other differ is = ap (λ (k : ℕ). k == other) (eqb-true kind one is) ∙ differ
 
--- whether what a record can make happen does, which is told of all of it by the history
+-- whether what a record can make happen does, which the history says of all of it
 abbrev all_happen : PolicyView → Told → List Timed → Bool
 all_happen policy r h = if r.kind == switch_bytes then not (is_ended (phase_of h)) else if r.kind == slice_bytes then is_slice_up policy r.slot h else true
 

@@ -1,4 +1,4 @@
--- What is told one after another, and who hears it.
+-- What is reported one after another, and who hears it.
 use Rattle.std.proofs.Common.{◌≡◌, inl, inr, List, [], ◌∷◌, ◌++◌, refl, sym, ◌∙◌, subst, Result, Ok, Err}
 use Rattle.std.specs.Prelude.{IfErr}
 use Rattle.std.specs.Result.{IsErrAnd}
@@ -6,12 +6,12 @@ use Rattle.event_player.specs.declared.fault.ReportFault.{ReportFault}
 use Rattle.event_player.specs.declared.fault.ReportFault.TheVariants.{Memory}
 use Rattle.event_player.specs.Telling.{Outcome, ToldWhole, HeardPart, Tell}
 
--- two stretches of lines were told
+-- two stretches of lines were reported
 pub heard_both : {T C : Type 0} (Tells : T → C → Outcome → T → Type 0) (before now later : T) (first second : List C) → ToldWhole Tells before first now → ToldWhole Tells now second later → ToldWhole Tells before (first ++ second) later
 heard_both Tells before now later [] second same b = subst (λ state. ToldWhole Tells state second later) same b
 heard_both Tells before now later (line ∷ first) second (next, told, others) b = (next, told, heard_both Tells next now later first second others b)
 
--- nothing was told before memory ran out
+-- nothing was reported before memory ran out
 pub heard_none : {T C : Type 0} (Tells : T → C → Outcome → T → Type 0) (lines : List C) (before : T) → HeardPart Tells Memory before lines before
 heard_none Tells [] before = (refl, refl)
 heard_none Tells (line ∷ others) before = inl (refl, refl)
@@ -29,7 +29,7 @@ pub heard_part_of_second : {T C : Type 0} (Tells : T → C → Outcome → T →
 heard_part_of_second Tells fault [] second before now later same part = subst (λ state. HeardPart Tells fault state second later) same part
 heard_part_of_second Tells fault (line ∷ first) second before now later (next, told, others) part = inr (inr (next, told, heard_part_of_second Tells fault first second next now later others part))
 
--- one line was told, or a fault broke it off
+-- one line was reported, or a fault broke it off
 pub tell_line : {T C : Type 0} (Tells : T → C → Outcome → T → Type 0) (outcome : Outcome) (line : C) (before now : T) → Tells before line outcome now → Tell Tells outcome (line ∷ []) before now
 tell_line Tells (Ok value) line before now told = (now, told, refl)
 tell_line Tells (Err fault) line before now broken = inr (inl broken)

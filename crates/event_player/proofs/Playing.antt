@@ -95,7 +95,7 @@ lines_both p number switch h first second =
 
 -- ---- the frames of a connection
 
--- so far: these frames are left of a connection, and the lines of the others are told
+-- so far: these frames are left of a connection, and the lines of the others are reported
 pub record Hearing {T : Type 0} (Tells : T → Cue → Outcome → T → Type 0) (scene : Scene) (from : Dest) (first : List Timed) (all : List (List ℕ)) (fed : List ℕ) (before now : Player T) (desk : Desk) (framer : Stream) : Type 0 where
   pub h : List Timed
   pub given : List (List ℕ)
@@ -201,7 +201,7 @@ hearing_more Tells scene from first all fed before now new old desk framer frame
       next = sym (next_after_both s.h own (happening p scene.moment h events)) ∙ ap (next_after s.h) (sym split) ∙ s.next;
     }
 
--- a piece of the next message's lines was told
+-- a piece of the next message's lines was reported
 pub hearing_part : {A T More : Type 0} (Tells : T → Cue → Outcome → T → Type 0) (scene at : Scene) (from : Dest) (first : List Timed) (all : List (List ℕ)) (fed : List ℕ) (before now new : Player T) (old desk : Desk) (framer framer_after : Stream) (frame : List ℕ) (fault : ReportFault) (result : Result A ReportFault)
     (s : Hearing Tells scene from first all fed before now old framer) → TookFrame (Some frame) fed s.given framer_after → IsErrAnd result (λ e. e ≡ fault)
     → Plays Tells (later s.events scene) s.h (event_from from frame ∷ []) (Err fault) now new desk

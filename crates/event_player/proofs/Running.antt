@@ -56,7 +56,7 @@ pub found_fresh : (p : PolicyView) (r : Told) (before : List Told) (fresh : Swit
 found_fresh p r before fresh true none is_fresh = is_fresh
 found_fresh p r before fresh false none is_fresh = fresh_stands p r.switch before fresh none is_fresh
 
--- a record finds the switch that comes up fresh, and one that doesn't as it was
+-- a record finds the switch that connects fresh, and one that doesn't as it was
 pub up_found : (p : PolicyView) (r : Told) (before : List Told) (fresh : Switch) → r.kind ≡ switch_up → IsFreshSwitch p fresh → IsFound p r before fresh
 up_found p r before fresh is stands = subst (λ (comes : Bool). IsFoundWhere comes p r before fresh) (sym (eq-eqb r.kind switch_up is)) stands
 
@@ -143,7 +143,7 @@ no_lines p number before = refl
 
 -- ---- all records
 
--- the records that are left of a file, and what a player told and counted so far
+-- the records that are left of a file, and what a player reported and counted so far
 pub record Running {T : Type 0} (Tells : T → Cue → Outcome → T → Type 0) (p : PolicyView) (file : List ℕ) (all left : List Item) (before now : Player T) (switches : List (Option Switch)) : Type 0 where
   pub policy : now.policy.now ≡ p
   pub past : List Told
@@ -216,7 +216,7 @@ running_part {A} Tells p file all from left item fault (Err e) before now after 
     }
 running_part Tells p file all from left item fault (Ok value) before now after old new is s same plays = absurd same
 
--- memory ran out before anything was told
+-- memory ran out before anything was reported
 pub running_none : {A T : Type 0} (Tells : T → Cue → Outcome → T → Type 0) (p : PolicyView) (records : List Told) (result : Result A ReportFault) (player : Player T) → IsErrAnd result (λ e. e ≡ Memory) → TellsAll Tells p records result player player
 running_none {A} Tells p records (Err e) player same = record { told = tell_on {A = A} Tells Memory (Err e) (all_cues p records) player.teller player.teller same (heard_none Tells (all_cues p records) player.teller); count = tt }
 running_none Tells p records (Ok value) player same = absurd same

@@ -30,7 +30,7 @@ closed_as : (p : PolicyView) (place : LinePlace) (h : List Timed) (timed : Timed
 closed_as p place h timed slot true up is = rw is refl
 closed_as p place h timed slot false up is = rw is refl
 
--- beside its messages an event that was taken in tells of the slice that spoke, or of the switch's end
+-- beside its messages an event that was taken in reports of the slice that spoke, or of the switch's end
 told_state : (p : PolicyView) (place : LinePlace) (h : List Timed) (timed : Timed) (speaking : Option ℕ) → speaker timed.event ≡ speaking → is_over h ≡ false
     → state_lines p place (timed ∷ h) speaking (closes p h timed) ≡ closing_lines p place (timed ∷ h) speaking ++ down_lines place h timed
 told_state p place h timed None of is = ends_by (is_ended (phase_of h)) (leb (2 ^ 60) (length h)) (is_ended (phase_of (timed ∷ h))) (down_line place ∷ []) is
@@ -114,7 +114,7 @@ pub one_closed : (p : PolicyView) (place : LinePlace) (slot : ℕ) (name : List 
 one_closed p place slot name true is named = ap (λ (n : List ℕ). close_line place n ∷ []) named
 one_closed p place slot name false is named = absurd cc
 
--- what is told of an event that was taken in
+-- what is reported of an event that was taken in
 pub told_taken : {T : Type 0} (Tells : T → Line → Outcome → T → Type 0) (scene : Scene) (h : List Timed) (timed : Timed) (closed : Bool) (desk new_desk : Desk) (speaking : Option ℕ) (outcome : Outcome) (old new : Player T)
     → IsTaken scene.policy h timed closed desk → speaking ≡ speaker timed.event
     → HasTold Tells scene (IsQuiet scene.policy (timed ∷ h) new_desk) outcome (lines_in_parts scene.policy scene.place (timed ∷ h) (λ slot. sent_by scene.policy slot h timed) (lane_by scene.policy h timed) speaking closed) old new
@@ -126,7 +126,7 @@ told_taken Tells scene h timed closed desk new_desk speaking outcome old new tak
     (ap (λ (o : Option ℕ). lines_in_parts p place (timed ∷ h) (λ slot. sent_by p slot h timed) (lane_by p h timed) o closed) of ∙ told_event p place h timed closed taken.going taken.closed_as)
     (told_so Tells scene outcome (lines_in_parts p place (timed ∷ h) (λ slot. sent_by p slot h timed) (lane_by p h timed) speaking closed) old new (λ quiet. subst (λ (events : List Timed). IsQuiet p events new_desk) (sym (next_on h timed taken.going)) quiet) told)
 
--- what is told of one that wasn't
+-- what is reported of one that wasn't
 pub told_over : {T : Type 0} (Tells : T → Line → Outcome → T → Type 0) (scene : Scene) (h : List Timed) (timed : Timed) (desk : Desk) (speaking : Option ℕ) (outcome : Outcome) (old new : Player T)
     → (is_over h ≡ true) × IsQuiet scene.policy h desk → speaking ≡ speaker timed.event → HasTold Tells scene (Unit {0}) outcome (closing_lines scene.policy scene.place h speaking) old new
     → HasTold Tells scene (IsQuiet scene.policy (next_of h timed) desk) outcome (event_lines scene.policy scene.place h timed) old new

@@ -23,7 +23,7 @@ from_is file at item is = ap (λ (r : Item). r.from) is
 
 -- ---- all records
 
--- the records that are left from a place on, and what a player told and counted so far
+-- the records that are left from a place on, and what a player reported and counted so far
 pub record Walking {T : Type 0} (Tells : T → Cue → Outcome → T → Type 0) (p : PolicyView) (file : List ℕ) (all : List Item) (at : ℕ) (before now : Player T) (switches : List (Option Switch)) : Type 0 where
   pub left : List Item
   pub rest : AreLeft Recording (length p.slices) file at left

@@ -7,7 +7,7 @@ use Rattle.event_player.specs.Telling.{Cue, Outcome}
 use Rattle.event_player.specs.Switches.{SwitchesStand}
 use Rattle.event_player.specs.declared.desks.PlayedDesks.{PlayedDesks}
 
--- nobody hears what is told, and none of it breaks off
+-- nobody hears what is reported, and none of it breaks off
 abbrev pub Unheard : {T : Type 0} → T → Cue → Outcome → T → Type 0
 Unheard old cue outcome new = (outcome ≡ Ok tt) × (new ≡ old)
 

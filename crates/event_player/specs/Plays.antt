@@ -32,7 +32,7 @@ pub record Rests (policy : PolicyView) (h own : List Timed) (desk : Desk) : Type
   pub quiet : IsQuiet policy (next_after h own) desk
   pub framed : AreFramed (next_after h own)
 
--- these events were played: they and their lines were told, they were counted, and more holds
+-- these events were played: they and their lines were reported, they were counted, and more holds
 abbrev pub PlaysEvents : {T : Type 0} → (T → Cue → Outcome → T → Type 0) → Scene → List Timed → List Timed → Type 0 → Outcome → Player T → Player T → Type 0
 PlaysEvents Tells scene h own More result old new = HasTold Tells (later (length own) scene) More result (cues_after scene.policy scene.place h own) old new
 

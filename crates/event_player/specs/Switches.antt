@@ -27,7 +27,7 @@ pub record SwitchStands (policy : PolicyView) (number : ℕ) (before : List Told
   pub framed : AreFramed (history_of policy number before)
   pub streams : StreamsStand (length policy.slices) number before switch.streams
 
--- the cues of a record's events were told, these were counted, and more holds
+-- the cues of a record's events were reported, these were counted, and more holds
 abbrev pub RecordPlayed : {T : Type 0} → (T → Cue → Outcome → T → Type 0) → PolicyView → ℕ → Told → List Told → Type 0 → Outcome → Player T → Player T → Type 0
 RecordPlayed Tells policy number r before More result old new =
     PlaysEvents Tells (scene_of policy number r) (history_at policy r before) (events_in policy r before) More result old new

@@ -1,4 +1,4 @@
--- What is told of a recording, cue by cue, and who hears it (this proxy's own rule).
+-- What is reported of a recording, cue by cue, and who hears it (this proxy's own rule).
 use Rattle.std.specs.List.{flat_map, enumerate_from}
 use Rattle.std.specs.Prelude.{ℕ, ◌≡◌, ◌⊎◌, Bool, List, [], ◌∷◌, ◌++◌, map, Option, Some, None, Result, Ok, Err}
 use Rattle.flowspace.specs.Policies.{PolicyView}
@@ -13,7 +13,7 @@ use Rattle.event_player.specs.declared.fault.ReportFault.TheVariants.{Memory}
 
 -- ---- events
 
--- What is told one after another: under a policy an event comes, which has this number, and before its desk's step; or a line is said of the event that came last.
+-- What is reported one after another: under a policy an event comes, which has this number, and before its desk's step; or a line is said of the event that came last.
 pub data Cue : Type 0 where
   Comes : (policy : PolicyView) (number : ℕ) (one : Happened) → Cue
   Says : (line : Line) → Cue
@@ -22,7 +22,7 @@ pub data Cue : Type 0 where
 abbrev pub coming : PolicyView → LinePlace → List Timed → Timed → Cue
 coming policy place h timed = Comes policy place.number (record { switch = place.switch; history = h; timed = timed })
 
--- what is told of one event: that it comes, and then its lines
+-- what is reported of one event: that it comes, and then its lines
 abbrev pub event_cues : PolicyView → LinePlace → List Timed → Timed → List Cue
 event_cues policy place h timed = coming policy place h timed ∷ map Says (event_lines policy place h timed)
 
@@ -60,22 +60,22 @@ lines_in_parts policy place h slices lane speaking closed =
 
 -- ---- who hears
 
--- how it went with a cue: it was told whole, or a fault broke it off
+-- how it went with a cue: it was reported whole, or a fault broke it off
 abbrev pub Outcome : Type 0
 Outcome = Result (Unit {0}) ReportFault
 
--- from one state to another by what is told, each of it told whole
+-- from one state to another by what is reported, each of it reported whole
 abbrev pub ToldWhole : {T C : Type 0} → (T → C → Outcome → T → Type 0) → T → List C → T → Type 0
 ToldWhole Tells old [] new = new ≡ old
 ToldWhole {T} Tells old (first ∷ others) new = (next : T) × Tells old first (Ok tt) next × ToldWhole Tells next others new
 
--- by the first of these cues, until a fault: it broke one off, or memory ran out where none was told
+-- by the first of these cues, until a fault: it broke one off, or memory ran out where none was reported
 abbrev pub HeardPart : {T C : Type 0} → (T → C → Outcome → T → Type 0) → ReportFault → T → List C → T → Type 0
 HeardPart Tells fault old [] new = (new ≡ old) × (fault ≡ Memory)
 HeardPart {T} Tells fault old (first ∷ others) new =
     ((new ≡ old) × (fault ≡ Memory)) ⊎ (Tells old first (Err fault) new ⊎ ((next : T) × Tells old first (Ok tt) next × HeardPart Tells fault next others new))
 
--- all of these cues were told; at a fault the first of them
+-- all of these cues were reported; at a fault the first of them
 abbrev pub Tell : {A T C : Type 0} → (T → C → Outcome → T → Type 0) → Result A ReportFault → List C → T → T → Type 0
 Tell Tells (Ok value) cues old new = ToldWhole Tells old cues new
 Tell Tells (Err fault) cues old new = HeardPart Tells fault old cues new

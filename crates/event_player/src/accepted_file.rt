@@ -15,8 +15,8 @@ use crate::teller::Teller;
 use recording::{MAGIC, item_at};
 
 impl<T: Teller> Player<'_, T> {
-    /// Plays all records of an accepted file, and tells all that comes of them, event by event. It makes no list
-    /// of the records.
+    /// Plays all records of an accepted file, and reports all that comes of them, event by event. It makes no
+    /// list of the records.
     pub fn play_file(&mut self, file: &[u8]) -> Result<(), ReportFault>
         requires items { (items : List Item) × (read_items (length self.old.policy.now.slices) file.now ≡ Ok items) }
         requires first { self.old.place.number ≡ 0 }

@@ -1,4 +1,4 @@
-//! A run that tells nobody: the desks of a recording's switches.
+//! A run that reports to nobody: the desks of a recording's switches.
 
 ghost use Rattle.std.specs.Prelude.{◌≡◌, ◌<◌, List, length, reverse, Ok, IfOk, IfErr, IfSome, IfNone};
 ghost use Rattle.flowspace.specs.Policies.{PolicyView};
@@ -68,7 +68,7 @@ impl PlayedDesks {
     }
 }
 
-/// Plays a recording and tells nobody. It ends early only where memory runs out.
+/// Plays a recording and reports to nobody. It ends early only where memory runs out.
 pub fn played(alloc: Global, policy: &Policy, bytes: &[u8]) -> Result<PlayedDesks, ReportFault>
     requires { (items : List Item) × (read_items (length policy.now.slices) bytes.now ≡ Ok items) }
     ensures desks { (items : List Item) → read_items (length policy.now.slices) bytes.now ≡ Ok items → IfOk result (IsPlayed policy.now (told_in bytes.now items)) }

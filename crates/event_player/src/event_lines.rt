@@ -137,7 +137,7 @@ impl<T: Teller> Player<'_, T> {
         self.put_close(slot, closed)
     }
 
-    /// One event is taken in at a desk at which nothing waits, or isn't, and all its lines are told.
+    /// One event is taken in at a desk at which nothing waits, or isn't, and all its lines are reported.
     #[inline(always)]
     fn take_in(&mut self, desk: &mut Desk, event: Event) -> Result<(), ReportFault>
         ensures { (scene : Scene) (h : List Timed) → IsPlaying scene self.old → IsQuiet scene.policy h desk.old → AreFramed h → IsFramed event
@@ -155,7 +155,7 @@ impl<T: Teller> Player<'_, T> {
         }
     }
 
-    /// Tells that an event comes.
+    /// Reports that an event comes.
     #[inline(always)]
     fn announce(&mut self, desk: &Desk, event: &Event) -> Result<(), ReportFault>
         ensures { (scene : Scene) (h : List Timed) → IsPlaying scene self.old → IsQuiet scene.policy h desk.now → AreFramed h → IsFramed event.now

@@ -1,5 +1,5 @@
-//! A recording played at the desks of its switches: each event, and each message that comes of it, is told one
-//! after the other to whoever is to hear them, or the desks are handed out at the end.
+//! A recording played at the desks of its switches: each event, and each message that comes of it, is
+//! reported one after the other to whoever is to hear them, or the desks are handed out at the end.
 #![tactic(auto)]
 
 mod accepted_file;

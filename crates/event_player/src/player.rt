@@ -17,7 +17,7 @@ use of10_ctl::{Frame, Framer};
 use recording::Item;
 use std::alloc::{AllocError, Global};
 
-/// Plays records at the desks of their switches, by a policy, and tells what comes of them.
+/// Plays records at the desks of their switches, by a policy, and reports what comes of them.
 #[derive(Drop)]
 pub struct Player<'a, T: Teller> {
     /// Who hears it.
@@ -29,7 +29,7 @@ pub struct Player<'a, T: Teller> {
     /// When what is played came.
     pub(crate) moment: u64,
     pub(crate) alloc: Global,
-    /// Memory of a message that was told, in which the next one is made that comes.
+    /// Memory of a message that was reported, in which the next one is made that comes.
     pub(crate) spare: &'a mut Vec<u8>,
 }
 
@@ -58,7 +58,7 @@ impl<'a, T: Teller> Player<'a, T> {
         }
     }
 
-    /// A record begins: what is played from now on is of its switch and came at its moment.
+    /// A record begins: what is played from now on is of its switch and came at its timestamp.
     pub(crate) fn begin(&mut self, item: &Item)
         ensures scene { (bytes : List ℕ) → IsPlaying (scene_of self.old.policy.now self.old.place.number (told_by item.now bytes)) self.new }
         ensures teller { self.new.teller ≡ self.old.teller }
@@ -70,7 +70,7 @@ impl<'a, T: Teller> Player<'a, T> {
         self.moment = item.moment;
     }
 
-    /// Tells a line of the event that is played.
+    /// Reports a line of the event that is played.
     #[inline(always)]
     pub(crate) fn say(&mut self, said: Said<'_>) -> Result<(), ReportFault>
         ensures { (scene : Scene) → IsPlaying scene self.old → HasTold (says T.Tells) scene (Unit {0}) result (record { place = scene.place; saying = saying_of said.entry } ∷ []) self.old self.new }
@@ -78,7 +78,7 @@ impl<'a, T: Teller> Player<'a, T> {
         self.teller.tell(self.place, said)
     }
 
-    /// Keeps the memory of a message that was told, for the next that comes.
+    /// Keeps the memory of a message that was reported, for the next that comes.
     pub(crate) fn keep(&mut self, message: Frame)
         ensures { PlaysOn self.old self.new }
     {

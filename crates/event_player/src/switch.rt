@@ -43,7 +43,7 @@ impl Switch {
         Ok(())
     }
 
-    /// Before a record, where there were records before it: where it comes up, all begins anew.
+    /// Before a record, where there were records before it: where the switch connects, all begins anew.
     // No switch is a local of this one, as in `play_at`.
     #[inline(never)]
     fn renew(&mut self, alloc: Global, policy: &Policy, item: &Item) -> Result<(), AllocError>
@@ -84,7 +84,7 @@ fn event_of(item: &Item) -> Event
 }
 
 impl<T: Teller> Player<'_, T> {
-    /// A connection begins or ends. A switch that comes up is fresh.
+    /// A connection begins or ends. A switch that connects is fresh.
     #[inline(never)]
     fn connection_turns(&mut self, switch: &mut Switch, item: &Item) -> Result<(), ReportFault>
         requires { IsTurn item.now.kind }
@@ -138,7 +138,8 @@ impl<T: Teller> Player<'_, T> {
         }
     }
 
-    /// Plays a record at a switch of which there were records before: where it comes up, all begins anew.
+    /// Plays a record at a switch of which there were records before: where the switch connects, all begins
+    /// anew.
     pub(crate) fn play_again(
         &mut self,
         switch: &mut Switch,

@@ -1,4 +1,4 @@
-//! What is told of a recording, and who hears it.
+//! What is reported of a recording, and who hears it.
 
 use crate::fault::ReportFault;
 use proxy_core::{Desk, Event};
@@ -23,7 +23,7 @@ pub enum Said<'a> {
     Down,
 }
 
-/// Whoever hears what is told.
+/// Whoever hears what is reported.
 pub trait Teller: Drop {
     ghost use Rattle.std.specs.Prelude.{List};
     ghost use Rattle.flowspace.specs.Policies.{PolicyView};
@@ -34,11 +34,11 @@ pub trait Teller: Drop {
     ghost use Rattle.event_player.specs.Holding.{IsQuiet};
     ghost use Rattle.event_player.specs.Lines.{place_of, line_of};
 
-    /// From one state to another by what was told whole, or what a fault broke off.
+    /// From one state to another by what was reported whole, or what a fault broke off.
     ghost Tells: { Self → Cue → Outcome → Self → Type 0 };
 
-    /// Tells that an event comes, which came at a moment. The desk of its switch stands as it does before the
-    /// event, and its lines are told after this.
+    /// Reports that an event comes, which came at a timestamp. The desk of its switch stands as it does
+    /// before the event, and its lines are reported after this.
     fn come(
         &mut self,
         place: LinePlace,
@@ -48,7 +48,7 @@ pub trait Teller: Drop {
     ) -> Result<(), ReportFault>
         ensures { (policy : PolicyView) (h : List Timed) → IsQuiet policy h desk.now → AreFramed h → IsFramed event.now → Tells self.old (coming policy (place_of place) h (timed_at moment event.now)) result self.new };
 
-    /// Tells one line.
+    /// Reports one line.
     fn tell(&mut self, place: LinePlace, said: Said<'_>) -> Result<(), ReportFault>
         ensures { Tells self.old (Says (line_of place said.entry)) result self.new };
 }

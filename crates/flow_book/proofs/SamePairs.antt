@@ -38,7 +38,7 @@ pair_from m p b e f = and_from (b.priority == p) (is_same b.pattern m) (eq-eqb b
 pub pair_itself : (b : Booked) → is_pair b.pattern b.priority b ≡ true
 pair_itself b = pair_from b.pattern b.priority b refl refl
 
--- ---- the order tells pairs apart
+-- ---- the order distinguishes pairs
 
 same_spelling : (a b : Pattern) → IsNormal a → IsNormal b → Spell a ≡ Spell b → a ≡ b
 same_spelling a b na nb e = sym (Norm-Spell a na) ∙ ap Norm e ∙ Norm-Spell b nb

@@ -10,7 +10,7 @@ use Rattle.of10_model.specs.Meet.{is_disjoint}
 use Rattle.of10_flow.specs.declared.protocol.TheConstants.{ADD, MODIFY, MODIFY_STRICT}
 use Rattle.flow_book.specs.declared.booked.Booked.{Booked}
 
--- what can be done to the book: a flow-mod with its command, pieces, priority, wish to be told of removals and number; the removal of a pair; and a failure of the request of a number for a pair
+-- what can be done to the book: a flow-mod with its command, pieces, priority, wish for reports of removals and number; the removal of a pair; and a failure of the request of a number for a pair
 pub data BookCall : Type 0 where
   Added : ℕ → List Pattern → ℕ → Bool → ℕ → BookCall
   Removed : Pattern → ℕ → BookCall

@@ -25,7 +25,7 @@ Releases pattern priority (Removed other at_priority) earlier = (other ≡ patte
 Releases pattern priority (Failed number other at_priority) earlier =
     (other ≡ pattern) × (at_priority ≡ priority) × ((b : Booked) × (booking pattern priority earlier ≡ Some b) × (b.number ≡ number))
 
--- of the calls that book or release the pair the last one books it, and it asks so to be told of its removal
+-- of the calls that book or release the pair the last one books it, and it asks so for a report of the removal
 pub record IsLastBooked (pattern : Pattern) (priority : ℕ) (wish : Bool) (calls : List BookCall) : Type 0 where
   pub later : List BookCall
   pub command : ℕ

@@ -73,9 +73,9 @@ impl FlowBook {
         }
     }
 
-    /// How many of the pieces a flow-mod with this command and priority would book that aren't booked: of
-    /// an ADD or a MODIFY_STRICT those whose pair isn't, of a MODIFY those that include no booked match,
-    /// and of a delete none (OpenFlow 1.0.0, section 4.6).
+    /// How many of the pieces a flow-mod with this command and priority would book that aren't booked
+    /// (OpenFlow 1.0.0, section 4.6). Of an ADD or a MODIFY_STRICT it books those whose pair isn't booked, of
+    /// a MODIFY those that include no booked match, and of a delete none.
     pub fn newcomers(&self, command: u16, pieces: &[Match], priority: u16) -> u32
         requires distinct { AllPairs (λ a b. a ≢ b) pieces.now }
         requires few { length pieces.now < 2 ^ 32 }

@@ -30,7 +30,7 @@ OutputsToOwnPorts rules slot m = All (NamesOwnPort rules slot) m.actions
 abbrev pub LeavesOtherHeaders : List Rule → ℕ → FlowMod → Type 0
 LeavesOtherHeaders rules slot m = (h : Header) → IsHeader h → (Writes rules slot h → ⊥) → LeavesTreatment m h
 
--- a flow-mod stays within a slice: beside all this, each packet that its actions send is, as the actions before rewrite it, one that the slice writes by some port of entry, and by its own where it is sent to the controller
+-- a flow-mod stays within a slice: beside all this, each packet that its actions send is, as the actions before rewrite it, one that the slice writes by some port of entry. A packet that is sent to the controller is one that the slice writes by the packet's own port of entry
 pub record StaysWithin (rules : List Rule) (slot : ℕ) (m : FlowMod) : Type 0 where
   pub lies : LiesInFlowspace rules slot m
   pub outputs : OutputsToOwnPorts rules slot m

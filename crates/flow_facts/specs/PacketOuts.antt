@@ -35,7 +35,7 @@ MayComeBy rules slot port = HasPort rules slot port ⊎ ((port ≡ NONE) ⊎ (po
 abbrev pub CarriesWritten : List Rule → ℕ → PacketOut → Type 0
 CarriesWritten rules slot m = (entry : ℕ) × (entry < 2 ^ 16) × (IsHeader (header_of_packet entry m.payload) → Writes rules slot (header_of_packet entry m.payload))
 
--- the number that it carries is that of a packet whose header the slice writes; or it has none, counts as received where the slice may have it so, and carries a packet that the slice writes, or a probe with the slice's mark
+-- the number that it carries is that of a packet whose header the slice writes. Or it carries no number, counts as received where the slice may have it so, and carries a packet that the slice writes, or a probe with the slice's mark
 abbrev pub SendsOwnPacket : (ℕ → Header → Type 0) → List Rule → ℕ → PacketOut → Type 0
 SendsOwnPacket IsHeaderUnder rules slot m =
     ((h : Header) × IsHeaderUnder m.buffer h × Writes rules slot h)
@@ -63,7 +63,7 @@ ChangesNoTable m = Unit {0}
 abbrev pub IsHeaderSent : (ℕ → Header → Type 0) → PacketOut → Header → Type 0
 IsHeaderSent IsHeaderUnder m h = IsHeaderUnder m.buffer h ⊎ ((m.buffer ≡ NO_BUFFER) × (h ≡ carried_header m))
 
--- a packet-out stays within a slice: beside all this, its packet, if it is no probe, is at each action that sends it, as the actions before rewrite it, one that the slice writes by some port of entry, and by its own where it is sent to the controller or through the table
+-- a packet-out stays within a slice: beside all this, its packet, if it is no probe, is at each action that sends it, as the actions before rewrite it, one that the slice writes by some port of entry. Where it is sent to the controller or through the table, it is one that the slice writes by its own port of entry
 pub record SendsWithin (IsHeaderUnder : ℕ → Header → Type 0) (rules : List Rule) (slot : ℕ) (m : PacketOut) : Type 0 where
   pub own : SendsOwnPacket IsHeaderUnder rules slot m
   pub outputs : SendsToOwnPorts rules slot m

@@ -1,4 +1,4 @@
--- A number by which most matches that differ are told apart at once. All of this is the proxy's own rule.
+-- A number that at once distinguishes most matches that differ. All of this is the proxy's own rule.
 use Rattle.std.specs.Prelude.{ℕ, ◌≡◌, ◌+◌, ◌*◌, ◌/◌, ◌%◌, ◌^◌, Bool, true, false, List, slice_index_or, All, Option, Some, None}
 use Rattle.of10_model.specs.declared.pattern.Prefix.{Prefix}
 use Rattle.of10_model.specs.declared.pattern.Pattern.{Pattern}

@@ -62,8 +62,8 @@ pub fn message_is_read_again()
 {}
 
 /// Each message of a flow-mod leaves every flow table treating as before each header that none of the given
-/// matches has; so, sent for a slice, each that none of its write rules has, and under a policy each that the
-/// slice doesn't write.
+/// matches has. So a message that is sent for a slice leaves each header that none of the slice's write rules
+/// has, and under a policy each that the slice doesn't write.
 pub fn message_changes_only_what_its_slice_writes()
     ensures matches { (given : List Pattern) (h : Header) → (Any (λ w. Has w h) given → ⊥) → (m : FlowMod) (xid : ℕ) (lists : List (List Action)) (buffer : Option (ℕ × ℕ))
         → All (λ sent. LeavesTreatment sent h) (piece_messages 0 m xid (pieces_within given m.pattern) lists buffer) }

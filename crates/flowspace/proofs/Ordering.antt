@@ -48,7 +48,7 @@ example p = record {
   readers = 0;
 }
 
--- what a stable sort by descending priority makes
+-- what a stable sort at descending priority makes
 pub in_order-from_sort : (rs sorted : List Rule) → IsSortedBy (goes_before rank_of) sorted → IsStableBy (goes_before rank_of) rs sorted → sorted ≡ in_order rs
 in_order-from_sort rs sorted up stable = ranked-from_sort rank_of example (λ p. inl refl) rs sorted up stable
 

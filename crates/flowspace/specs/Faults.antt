@@ -60,7 +60,7 @@ pub record IsFirstFull (slices : List Slice) (rules : List Rule) (count : ℕ) :
   pub too_many : 256 < count
   pub is_first : (k : ℕ) → k < slot → count_by (is_written_by k) rules ≤ 256
 
--- a fault of slices and rules, with no fault of those that come before it: too many slices, too many rules, a name twice, along the file a rule that isn't sound, along the slots too many written rules, and along rule order an overlap
+-- a fault of slices and rules, with no fault of those that come before it. These are, in order: too many slices, too many rules, a name twice, along the file a rule that isn't sound, along the slots too many written rules, and along rule order an overlap
 abbrev pub IsFirstPolicyFault : List Slice → List Rule → PolicyFault → Type 0
 IsFirstPolicyFault slices rules (TooMany Slices count) = (length slices ≡ count) × (32 < count)
 IsFirstPolicyFault slices rules (TooMany Rules count) = (length slices ≤ 32) × (length rules ≡ count) × (2048 < count)

@@ -15,7 +15,7 @@ abbrev pub ranked : {A : Type 0} → (A → ℕ) → List A → List A
 ranked rank [] = []
 ranked rank (x ∷ rest) = placed rank x (ranked rank rest)
 
--- the rules in rule order: descending priority, and among equals the place in the file
+-- the rules in rule order: at descending priority, and among equals by the place in the file
 abbrev pub in_order : List Rule → List Rule
 in_order rules = ranked (λ rule. rule.priority) rules
 

@@ -24,9 +24,9 @@ pub fn what_is_accepted_is_loaded()
     ensures { (slices : List Slice) (rules : List Rule) → 1 ≤ length slices → All IsPlainSlice slices → All IsPlainRule rules → AreNormal rules → (load_of slices rules ≡ Ok (record { slices = slices; rules = rules; swaps = [] })) ↔ IsPolicy slices rules }
 {}
 
-/// What is refused is refused for its first fault: too many slices, else too many rules, else the first
-/// slice that has the name of an earlier one, else the first rule in the file that names no slice or
-/// whose writer reads, else the rules of the first slot that writes too many, else an overlap.
+/// What is refused is refused for its first fault. The order is: too many slices, too many rules, and the
+/// first slice that has the name of an earlier one. Then follow the first rule in the file that names no
+/// slice or whose writer reads, the rules of the first slot that writes too many, and an overlap.
 pub fn what_is_refused_has_a_first_fault()
     ensures { (slices : List Slice) (rules : List Rule) (fault : PolicyFault) → AreNormal rules → load_of slices rules ≡ Err fault → IsFirstPolicyFault slices rules fault }
 {}
@@ -51,16 +51,17 @@ pub fn match_has_one_owner()
     ensures headers { (slices : List Slice) (rules : List Rule) → IsSwitchPolicy slices rules → AreNormal rules → (slot : ℕ) (m : Pattern) → IsNormal m → (owner_of_match rules m ≡ Some slot) ↔ Owns rules slot m }
 {}
 
-/// Plain slices, rules and swaps are loaded, and as they are, exactly where slices and rules make a policy,
-/// the swaps are within their limit and of slices that are there, and no number of a slice is named twice on
-/// a switch.
+/// Plain slices, rules and swaps are loaded, and as they are, exactly where slices and rules make a policy
+/// and the swaps suit it. Swaps suit a policy where they are within their limit and of slices that are there,
+/// and no number of a slice is named twice on a switch.
 pub fn what_is_accepted_with_swaps_is_loaded()
     ensures { (slices : List Slice) (rules : List Rule) (swaps : List Swap) → 1 ≤ length slices → All IsPlainSlice slices → All IsPlainRule rules → AreNormal rules → All IsPlainSwap swaps → (load_ports_of slices rules swaps ≡ Ok (record { slices = slices; rules = rules; swaps = swaps })) ↔ (IsPolicy slices rules × AreSwaps (length slices) swaps) }
 {}
 
-/// What is refused with swaps is refused for the first fault of its slices and rules; or these are loaded
-/// without the swaps, and it is the swaps' first fault: the first in the file that is of no slice, else too
-/// many, else the first that names a number which an earlier one of its slice names on a common switch.
+/// What is refused with swaps is refused for the first fault of its slices and rules. Where these are loaded
+/// without the swaps, it is refused for the first fault of the swaps. That is the first swap in the file that
+/// is of no slice, else too many swaps, else the first swap that names a number which an earlier swap of its
+/// slice names on a common switch.
 pub fn what_is_refused_with_swaps_has_a_first_fault()
     ensures { (slices : List Slice) (rules : List Rule) (swaps : List Swap) (fault : PolicyFault) → AreNormal rules → load_ports_of slices rules swaps ≡ Err fault → IsFirstPolicyFault slices rules fault ⊎ ((load_of slices rules ≡ Ok (record { slices = slices; rules = rules; swaps = [] })) × IsFirstSwapFault (length slices) swaps fault) }
 {}

@@ -17,8 +17,8 @@ pub(crate) struct FiledRule {
     pub(crate) rule: Rule,
 }
 
-/// What the order of rules means: the rules of a switch are those that hold on it, by descending
-/// priority, and those of one priority as they stand in the file. No other list is that.
+/// What the order of rules means: the rules of a switch are those that hold on it, at descending priority,
+/// and those of one priority as they stand in the file. No other list is that.
 pub fn rules_stand_in_order()
     ensures order { (datapath : ℕ) (rules : List RuleView) → IsRuleOrder (filter (holds datapath) rules) (rules_on datapath rules) }
     ensures only { (datapath : ℕ) (rules ordered : List RuleView) → IsRuleOrder (filter (holds datapath) rules) ordered → ordered ≡ rules_on datapath rules }

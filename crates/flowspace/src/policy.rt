@@ -40,9 +40,10 @@ impl Model for Policy {
 
 impl Policy {
     /// The policy of these slices, whose places are their slots, and of these rules, as they stand in
-    /// the file; else the first fault: too many slices or rules, a name twice, along the file a rule that
-    /// names no slice or whose writer reads, too many rules of one writer, and in rule order a rule that
-    /// takes headers of an earlier one for another slice. Memory is needed only for the last of these.
+    /// the file; else the first fault. The faults are, in order: too many slices or rules, a name twice, and
+    /// along the file a rule that names no slice or whose writer reads. Then follow too many rules of one
+    /// writer, and in rule order a rule that takes headers of an earlier one for another slice. Memory is
+    /// needed only for the last of these.
     pub fn load(alloc: Global, slices: Vec<Slice>, rules: Vec<Rule>) -> Result<Policy, PolicyFault>
         requires some_slice { 1 ≤ length slices.items }
         requires plain_slices { All IsPlainSlice slices.items }
@@ -54,9 +55,9 @@ impl Policy {
     }
 
     /// The policy of these slices and rules, and of these swaps as they stand in the file; else the first
-    /// fault: one of `load`, along the swaps one of a slice that isn't there, too many swaps, and along
-    /// the swaps one that names a number which an earlier swap of its slice names on a common switch.
-    /// Memory is needed only for an overlap of rules.
+    /// fault. The faults are, in order: one of `load`, along the swaps one of a slice that isn't there, and
+    /// too many swaps. Then follows, along the swaps, one that names a number which an earlier swap of its
+    /// slice names on a common switch. Memory is needed only for an overlap of rules.
     pub fn load_ports(
         alloc: Global,
         slices: Vec<Slice>,
@@ -126,7 +127,7 @@ impl Policy {
         &self.rules
     }
 
-    /// The rules in rule order: by descending priority, and those of one priority as they stand in the
+    /// The rules in rule order: at descending priority, and those of one priority as they stand in the
     /// file.
     pub fn in_rule_order(&self, alloc: Global) -> Result<Vec<Rule>, AllocError>
         ensures { IfOk result (λ v. v.items ≡ in_order self.now.rules) }

@@ -36,7 +36,7 @@ is_of_gen NoMemory = true
 is_of_gen NoMemoryToRun = true
 is_of_gen _ = false
 
--- words that ask for a text end well or with a fault of writing; words without a form, and those of `serve` and of what isn't done yet, end with the usage, where there is memory to say so; a check ends as a check can, a replay never with the usage, and a made recording and a division as they can
+-- words that ask for a text end well or with a fault of writing. Words without a form, and those of `serve` and of what isn't done yet, end with the usage, where there is memory to say so. A check ends as a check can, a replay never with the usage, and a made recording and a division as they can
 abbrev pub Suits : Option (List ℕ) → Option FormBytes → Ending → Type 0
 Suits (Some text) form ending = (ending ≡ Done) ⊎ (ending ≡ WriteFault)
 Suits None (Some (OfCheck policy)) ending = is_of_check ending ≡ true

@@ -6,12 +6,12 @@ use Rattle.fv_cli.specs.Endings.{ending_status, ending_line, IsPut}
 use Rattle.live_serve.specs.Running.{outside}
 use Rattle.live_serve.specs.Serving.{ServeReads, Places, ServeEnded}
 
--- what switches connect to: how many connections it accepted, where it is told, and how often a call for each place has failed
+-- what switches connect to: how many connections it accepted, where it is shown, and how often a call for each place has failed
 pub record Listening : Type 0 where
   pub accepted : Option ℕ
   pub faults : List ℕ → ℕ
 
--- the outside at one moment, with the count of each place: what switches connect to, the roles of the works started, and how often a start has failed
+-- the outside at one time, with the count of each place: what switches connect to, the roles of the threads started, and how often a start has failed
 abbrev pub places : Listening → Option (List Role) → ℕ → Places
 places listening roles start_faults = λ at. outside listening.accepted roles (listening.faults at) start_faults
 

@@ -1,4 +1,4 @@
-//! The system's clock. Nothing is told of what it will answer.
+//! The system's clock. Nothing is said of what it will answer.
 
 ghost use Rattle.std.specs.Prelude.{None};
 
@@ -7,7 +7,7 @@ use std::alloc::AllocError;
 use std::rt;
 use std::time::{SystemTime, UNIX_EPOCH};
 
-/// The time since 1970 in milliseconds. Where the system's clock can't be read it is the moment that was
+/// The time since 1970 in milliseconds. Where the system's clock can't be read it is the timestamp that was
 /// answered last, or 0.
 #[derive(Drop)]
 pub struct SystemClock<R: rt::Clock + Copy> {

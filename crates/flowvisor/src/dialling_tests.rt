@@ -7,7 +7,7 @@ use std::test::Fail;
 use std::time::{Duration, Instant};
 use std::{io, rt};
 
-/// A clock that goes on where one sleeps, and else as it is told.
+/// A clock that goes on where one sleeps, and else as it is set.
 #[derive(Drop)]
 struct Passing {
     milliseconds: AtomicU64,

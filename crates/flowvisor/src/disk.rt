@@ -1,4 +1,4 @@
-//! The files of the system. Nothing is told of their contents.
+//! The files of the system. Nothing is said of their contents.
 
 ghost use Rattle.std.specs.Prelude.{◌≡◌, ◌≤◌, length, None, IfOk};
 

@@ -44,7 +44,7 @@ fn show<O: Sink, E: Sink>(text: &str, out: &mut O, err: &mut E) -> u8
     }
 }
 
-// A flush that fails is a fault of writing, where the run told of none.
+// A flush that fails is a fault of writing, where the run reported none.
 fn after_flush<E: Sink>(status: u8, flushed: Result<(), Failed>, err: &mut E) -> u8
     ensures status { result ≡ (if status == 0 && is_err flushed then 5 else status) }
     ensures line { (status == 0 && is_err flushed) ≡ true → IsPut (ending_line WriteFault) (E.contents err.old) (E.contents err.new) (E.faults err.old) (E.faults err.new) }

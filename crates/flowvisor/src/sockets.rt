@@ -1,4 +1,4 @@
-//! Connections over TCP. Nothing is told of what they carry.
+//! Connections over TCP. Nothing is said of what they carry.
 
 ghost use Rattle.std.specs.Prelude.{◌≡◌, ◌≤◌, length, List, ℕ, None, true, false, is_some, IfOk, OnOk, OnErr};
 ghost use Rattle.fv_base.specs.Told.{Rose};
@@ -21,8 +21,8 @@ const LONGEST_DIAL: u64 = 5;
 /// The wait before another accept where there were no descriptors, or no memory of the system, in seconds.
 const WAIT_FOR_ROOM: u64 = 1;
 
-// Linux's numbers of errors that tell of such a want: ENOMEM, ENFILE, EMFILE, ENOBUFS; and of one that passes, EPERM,
-// by which a firewall's rules forbid a connection.
+// Linux's numbers of errors that report such a lack: ENOMEM, ENFILE, EMFILE, ENOBUFS; and of one that passes,
+// EPERM, by which a firewall's rules forbid a connection.
 const OUT_OF_MEMORY: i32 = 12;
 
 const FILE_TABLE_FULL: i32 = 23;
@@ -33,8 +33,8 @@ const NO_BUFFER_SPACE: i32 = 105;
 
 const FORBIDDEN: i32 = 1;
 
-// Linux's numbers of errors that an accept tells of the connection it would give: ENONET, EPROTO, ENOPROTOOPT,
-// EOPNOTSUPP, EHOSTDOWN.
+// Linux's numbers of errors that an accept reports of the connection it would give: ENONET, EPROTO,
+// ENOPROTOOPT, EOPNOTSUPP, EHOSTDOWN.
 const NOT_ON_THE_NETWORK: i32 = 64;
 
 const PROTOCOL_ERROR: i32 = 71;
@@ -48,14 +48,14 @@ const HOST_IS_DOWN: i32 = 112;
 /// How long a peer may take nothing of what it is sent, in seconds, before that is a fault.
 const LONGEST_STAND: u64 = 30;
 
-/// How long a switch may send nothing, in seconds, before it has told what it is. Longer is a fault.
+/// How long a switch may send nothing, in seconds, before it has said what it is. Longer is a fault.
 const LONGEST_SILENCE: u64 = 30;
 
 /// How many bytes a greeting and the features of a switch have at least.
 const FIRST_WORDS: usize = 40;
 
 /// The half of a connection that gives what the peer sends. Where it is dropped after the end or a fault the connection
-/// ends in both directions, so that nothing waits at the other half for a peer that has gone.
+/// ends in both directions, so that nothing waits at the other half for a peer that has disconnected.
 pub struct SocketSource {
     stream: Arc<TcpStream, Global>,
     faults: u64,
@@ -109,8 +109,8 @@ impl Drop for SocketSink {
 }
 
 /// Both halves of a connection. What is put is sent at once. A peer that takes nothing for long is a fault, so that
-/// one which never reads doesn't keep its session, and so is one that is silent for this time before it has told what
-/// it is.
+/// one which never reads doesn't keep its session, and so is one that is silent for this time before it has
+/// said what it is.
 pub fn halves(
     alloc: Global,
     stream: TcpStream,
@@ -278,7 +278,7 @@ impl Sockets {
     }
 }
 
-// Whether an accept failed for one connection alone, which was gone before it was accepted.
+// Whether an accept failed for one connection alone, which ended before it was accepted.
 fn is_of_one(error: &io::Error) -> bool {
     let is_by_kind = matches!(
         error.kind(),

@@ -1,4 +1,4 @@
-//! Standard output and standard error as sinks. Nothing is told of what they hold.
+//! Standard output and standard error as sinks. Nothing is said of what they hold.
 
 ghost use Rattle.std.specs.Prelude.{◌≡◌, None, OnErr, OnOk};
 ghost use Rattle.fv_base.specs.Told.{Rose};

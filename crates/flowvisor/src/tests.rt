@@ -183,7 +183,7 @@ impl rt::Clock for Broken {
     }
 }
 
-/// The first moment of 2024.
+/// The timestamp at which 2024 begins.
 const YEAR_2024: u64 = 1_704_067_200_000;
 
 #[test]

@@ -1,4 +1,4 @@
-//! Works on threads of the system. Nothing is told of which were started.
+//! Threads of the system. Nothing is said of which were started.
 
 ghost use Rattle.std.specs.Prelude.{◌≡◌, ◌≤◌, ◌<◌, None, OnOk, OnErr, vec_len, vec_capacity};
 ghost use Rattle.fv_base.specs.Told.{Rose};
@@ -32,8 +32,8 @@ struct Thread {
     done: Arc<Done, Global>,
 }
 
-/// Starts works by a closure, which gives the thread that runs a work and then says that it is done, or drops the
-/// work and gives none.
+/// Starts threads by a closure. It gives the thread that runs a work and then says that the work is done, or
+/// drops the work and gives none.
 #[derive(Drop)]
 pub struct ThreadSpawner<F: Drop> {
     alloc: Global,
@@ -43,7 +43,7 @@ pub struct ThreadSpawner<F: Drop> {
 }
 
 impl<F: Drop> ThreadSpawner<F> {
-    /// No work was started yet.
+    /// No thread was started yet.
     pub fn new(alloc: Global, by: F) -> ThreadSpawner<F>
         ensures { result.by ≡ by }
     {

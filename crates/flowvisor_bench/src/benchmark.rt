@@ -45,8 +45,8 @@ pub enum Benchmark {
     Report(Keeping),
 }
 
-/// What is told of a benchmark's speed: fewer calls are too few to tell it; a call counts as so many, and a million of
-/// these in a second are one of the unit.
+/// What is said of a benchmark's speed: fewer calls are too few to say it; a call counts as so many, and a
+/// million of these in a second are one of the unit.
 #[derive(Clone, Copy)]
 pub struct Scale {
     pub least: u64,
@@ -99,7 +99,7 @@ const LARGE: Scale = Scale {
     unit: "MB",
 };
 
-/// A benchmark by its name, and how its speed is told.
+/// A benchmark by its name, and how its speed is printed.
 pub type Named = (&'static str, Benchmark, Scale);
 
 /// Those that `all` runs, in the order in which they are made.

@@ -1,4 +1,4 @@
-//! Messages that make a desk work much, spelled byte by byte (OpenFlow 1.0.0, section 5).
+//! Messages that cost a desk much time, spelled byte by byte (OpenFlow 1.0.0, section 5).
 
 use crate::policies::LAST_PORT;
 use of10_ctl::kind::{
@@ -13,7 +13,7 @@ use std::alloc::{AllocError, Global};
 /// The most bytes of a message behind its header.
 const MOST_BYTES: usize = 65_527;
 
-/// As many ports as a switch can tell of.
+/// As many ports as a switch can report.
 const PORTS: u16 = 1_364;
 
 /// The port that messages send to.
@@ -183,7 +183,7 @@ pub fn longest_echo(alloc: Global) -> Result<Frame, AllocError> {
     message_with(alloc, ECHO_REQUEST, 1, &body)
 }
 
-/// What a switch says of itself, with as many ports as it can tell of, the last one first (section 5.3.1).
+/// What a switch says of itself, with as many ports as it can report, the last one first (section 5.3.1).
 pub fn features(alloc: Global) -> Result<Frame, AllocError> {
     let mut body = Vec::new(alloc);
     put_u64(&mut body, 0xa1)?;
@@ -219,7 +219,7 @@ fn put_flow(out: &mut Vec<u8>, from: u16) -> Result<(), AllocError> {
     put_u64(out, 60)
 }
 
-/// A part of the flows that a switch has, of as many flows as a message can tell of.
+/// A part of the flows that a switch has, of as many flows as a message can report.
 pub fn flows_part(alloc: Global, xid: u32, is_last: bool) -> Result<Frame, AllocError> {
     let mut body = Vec::new(alloc);
     put_u16(&mut body, FLOW_STATISTICS)?;

@@ -1,4 +1,4 @@
-//! Messages that make a desk work most, and how long a step of each takes.
+//! Messages that cost a desk most time, and how long a step of each takes.
 
 use crate::costly_messages::{
     Entry, OUT, Packets, flow_mod, flows_part, flows_question, longest_echo, longest_packet_in,
@@ -67,8 +67,9 @@ enum Worst {
     Features,
 }
 
-/// All of them. Of a flow-mod with 119 outputs the messages are together as long as they may be; 8,182 outputs, and
-/// 4,090 rewritten ones, are as many as there is room for; 59 of these are as few as let it be sent.
+/// All of them. Of a flow-mod with 119 outputs the messages are together as long as they may be. 8,182
+/// outputs, and 4,090 rewritten ones, are as many as there is room for; 59 of these are as few as let it be
+/// sent.
 const KINDS: &[(&str, Worst)] = &[
     (
         "flow-mod in 256 pieces of 1,024 bytes",
@@ -198,7 +199,7 @@ fn ask_all<R: Clock>(rt: &R, desk: &mut TimedDesk) -> io::Result<Brought> {
     ask_for_flows(rt, desk, 0, COLLECTED)
 }
 
-/// The switch connects anew and tells what it is.
+/// The switch connects anew and says what it is.
 fn open_anew<R: Clock>(rt: &R, desk: &mut TimedDesk) -> io::Result<Brought> {
     desk.renew()?;
     desk.open(rt)

@@ -2,11 +2,11 @@
 //! recording:
 //! `flowvisor_bench BENCHMARK COUNT`, where the benchmark is one that `benchmark` names, or `all` for all but
 //! the reading of policies. It prints what the calls found and, from a million of them on, how many millions
-//! or how many megabytes there were in a second; of those with many rules or many booked pairs how many
-//! thousand, and of the report of a recording how many events, from ten thousand on; and of policies how
-//! many, from ten on.
+//! or how many megabytes there were in a second. Of those with many rules or many booked pairs it prints how
+//! many thousand, and of the report of a recording how many events, from ten thousand on. Of policies it
+//! prints how many, from ten on.
 //!
-//! `flowvisor_bench worst COUNT` sends each of the messages that make a desk work most so often to a desk, and
+//! `flowvisor_bench worst COUNT` sends each of the messages that cost a desk most time so often to a desk, and
 //! prints how many messages the last one brought and how many microseconds the longest step took.
 //! `flowvisor_bench flat COUNT` prints how long the report of so many packets takes under 2 rules and under
 //! 2,048.

@@ -75,9 +75,9 @@ pub fn largest(alloc: Global) -> Result<String, AllocError> {
     shared(alloc, SLICES)
 }
 
-/// The same, but that the first slice is crowded: it writes as many of the rules as it may, each for a TCP port
-/// of its own, and also for a port of entry of its own where these are named. All other slices read what the
-/// last of these rules has.
+/// The same, but that the first slice is crowded. It writes as many of the rules as it may, each for a TCP
+/// port of its own, and also for a port of entry of its own where these are named. All other slices read what
+/// the last of these rules has.
 pub fn crowded(alloc: Global, are_named: bool) -> Result<String, AllocError> {
     let mut text = slices(alloc, SLICES, AMPLE)?;
     for place in 0..WRITES {

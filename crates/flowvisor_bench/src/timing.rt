@@ -28,7 +28,7 @@ impl Brought {
     };
 }
 
-/// The desk of a switch with as many ports as one can tell of, under a policy with a crowded slice.
+/// The desk of a switch with as many ports as one can report, under a policy with a crowded slice.
 #[derive(Drop)]
 pub struct TimedDesk {
     /// Where messages and the desk take memory.
@@ -71,7 +71,7 @@ impl TimedDesk {
         Ok(self.take_all())
     }
 
-    /// The switch connects and tells what it is.
+    /// The switch connects and says what it is.
     pub fn open<R: Clock>(&mut self, rt: &R) -> io::Result<Brought> {
         self.step(rt, Event::SwitchUp)?;
         self.step(rt, Event::SwitchMsg(features(self.alloc)?))

@@ -119,7 +119,7 @@ raised-there k entries other count name at h e =
       | false ↦ λ apart. rw declared (faults_at-others k entries other count name at apart)
     ] refl
 
--- one fault more of a name of which nothing was told
+-- one fault more of a name that has no entry
 pub raised-elsewhere : (k : ℕ) (entries : List Count) (name at : List ℕ) → length entries ≤ count_place entries name → faults_at (one_more k) entries at ≡ raised_in k entries name at
 raised-elsewhere k entries name at h =
     let nowhere : has_count entries name ≡ false = has_count-nowhere entries name h in

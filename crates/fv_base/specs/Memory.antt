@@ -1,4 +1,4 @@
--- What the outside in memory tells.
+-- What the outside in memory shows.
 use Rattle.std.specs.Prelude.{ℕ, List, [], ◌∷◌, ◌+◌, ◌-◌, ◌^◌, length, Option, Some, None, option_map, if◌then◌else◌, ◌≡◌, ◌==◌, ◌||◌, min}
 use Rattle.std.specs.Option.{option_or}
 use Rattle.std.specs.List.{list_any}
@@ -46,6 +46,6 @@ abbrev pub file_at : List File → List ℕ → Option (List ℕ)
 file_at [] path = None
 file_at (file ∷ others) path = if bytes_eq (string_bytes file.path) path then Some file.bytes.items else file_at others path
 
--- what is told at a path after a file was added behind the others
+-- what is shown at a path after a file was added behind the others
 abbrev pub with_file : (List ℕ → Option (List ℕ)) → List ℕ → List ℕ → List ℕ → Option (List ℕ)
 with_file told path bytes at = option_or (told at) (if bytes_eq path at then Some bytes else None)

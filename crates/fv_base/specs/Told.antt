@@ -1,9 +1,9 @@
--- What calls on the outside say of what is told, and of counts of faults. This proxy's own rules.
+-- What calls on the outside say of what is shown, and of counts of faults. This proxy's own rules.
 use Rattle.std.specs.Prelude.{◌≡◌, ◌⊎◌, ◌<◌, ◌≤◌, ◌-◌, ◌^◌, ℕ, List, [], ◌++◌, length, take, drop, Option, Some, None, Result, Err}
 use Rattle.fv_base.specs.declared.transfer.LoadFault.{LoadFault}
 use Rattle.fv_base.specs.declared.transfer.LoadFault.TheVariants.{ReadFault}
 
--- the contents after these bytes were appended: told where they were told before
+-- the contents after these bytes were appended: shown where they were shown before
 abbrev pub appended : Option (List ℕ) → List ℕ → Option (List ℕ)
 appended None bytes = None
 appended (Some before) bytes = Some (before ++ bytes)

@@ -199,9 +199,8 @@ fn copy(bytes: &[u8], from: u64, most: usize, into: &mut [u8]) -> usize
 }
 
 /// Files by their path. Where a path has two files, the first one counts. Each path that was added, or
-/// declared as missing, has a count of faults of its own; only the paths of which this object was told
-/// nothing share one count. A read takes no memory: it fails only where the plan says so, and at a path
-/// without a file.
+/// declared as missing, has a count of faults of its own; only all other paths share one count. A read takes
+/// no memory: it fails only where the plan says so, and at a path without a file.
 #[derive(Drop)]
 pub struct MemoryFiles {
     alloc: Global,

@@ -23,14 +23,14 @@ use Rattle.fv_cli.proofs.Making.{same_Ok}
 abbrev IsFine : ℕ → Ending → Type 0
 IsFine due ending = (ending_status ending ≡ due) ⊎ (ending_status ending ≡ 6)
 
--- what was read of a file that is told is all of it
+-- what was read of a file that is shown is all of it
 read_whole : (limit : ℕ) (file : Option (List ℕ)) (told bytes : List ℕ) → file ≡ Some told → WereRead limit file bytes → bytes ≡ told
 read_whole limit file told bytes is read = subst (λ (f : Option (List ℕ)). IfSome f (λ t. bytes ≡ t)) is read.whole
 
 passes_not : (limit : ℕ) (file : Option (List ℕ)) (told : List ℕ) → file ≡ Some told → length told ≤ limit → PassesLimit limit file → ⊥
 passes_not limit file told is within passes = let more : limit < length told = subst (PassesLimit limit) is passes in omega (arith, more, within)
 
--- of a policy that is told one thing is said
+-- of a policy that is shown one thing is said
 said_once : (w : Outside) (policy : List ℕ) (p : PolicyView) (said : Result PolicyView text.ReadFault) → IsReadyPolicy w policy p → PolicySays said (w.files policy) → said ≡ Ok p
 said_once w policy p said ready (bytes, read, says) =
     sym says ∙ ap (λ (b : List ℕ). policy_of (document_of b)) (read_whole policy_limit (w.files policy) ready.bytes bytes ready.told read) ∙ ready.says
@@ -81,7 +81,7 @@ gen_is_fine text before after count_before count_after calm other cause = run_is
 
 -- ---- divisions
 
--- a name that no slice has is told; of another one what follows decides
+-- a name that no slice has is reported; of another one what follows decides
 slot_is_fine : (due : ℕ) (p : PolicyView) (name : List ℕ) (DueMore : ℕ → Type 0) (More : ℕ → Ending → Type 0) → IsDueOfSlot (slot_named p.slices name) DueMore due → ((slot : ℕ) → DueMore slot → (ending : Ending) → More slot ending → IsFine due ending) → (ending : Ending) → WithSlot p name More ending → IsFine due ending
 slot_is_fine due p name DueMore More is_due then ending (inl (unnamed, is)) =
     let two : due ≡ 2 = subst (λ (found : Option ℕ). IsDueOfSlot found DueMore due) unnamed is_due in inl (ap ending_status is ∙ sym two)

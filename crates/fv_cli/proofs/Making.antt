@@ -40,7 +40,7 @@ read_behind before (t ∷ others) =
     (subst (λ (text : List ℕ). told_in text (all_told (length (before ++ record_bytes t)) others) ≡ others) (append_assoc before (record_bytes t) rest) (read_behind (before ++ record_bytes t) others)) in
     ap₂ (λ (bytes : List ℕ) (more : List Told). told_by (placed_record (length before) t) bytes ∷ more) carries later
 
--- the records that are read of a made recording tell those that were drawn
+-- the records that are read of a made recording are those that were drawn
 pub made_is_told : (seed count : ℕ) → told_in (recording_of seed count) (all_told 8 (records_of seed count)) ≡ records_of seed count
 made_is_told seed count = read_behind magic (records_of seed count)
 

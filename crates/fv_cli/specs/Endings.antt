@@ -58,11 +58,11 @@ recording_limit = 268435456
 
 -- ---- what was read of files
 
--- where the file is told, it passes the limit
+-- where the file is shown, it passes the limit
 abbrev pub PassesLimit : ℕ → Option (List ℕ) → Type 0
 PassesLimit limit file = IfSome file (λ bytes. limit < length bytes)
 
--- these bytes were read of a file: no more than the limit, and all of it where it is told
+-- these bytes were read of a file: no more than the limit, and all of it where it is shown
 pub record WereRead (limit : ℕ) (file : Option (List ℕ)) (bytes : List ℕ) : Type 0 where
   pub within : length bytes ≤ limit
   pub whole : IfSome file (λ told. bytes ≡ told)
@@ -106,7 +106,7 @@ IsRecordingCause slices file before after ending = IsLoadCause recording_limit f
 
 -- ---- causes
 
--- what a call of the program saw: the files that are told, the counts of their paths before and after, and the output and its count before and after
+-- what a call of the program saw: the files that are shown, the counts of their paths before and after, and the output and its count before and after
 pub record Outside : Type 0 where
   pub files : List ℕ → Option (List ℕ)
   pub read_before : List ℕ → ℕ
@@ -125,7 +125,7 @@ abbrev pub WithPolicy : Outside → List ℕ → (PolicyView → Ending → Type
 WithPolicy w path More ending =
     IsPolicyCause (w.files path) (w.read_before path) (w.read_after path) ending ⊎ ((p : PolicyView) × HasPolicy p (w.files path) × More p ending)
 
--- a recording isn't had under so many slices; or it is had, and more holds of what it tells
+-- a recording isn't had under so many slices; or it is had, and more holds of what it says
 abbrev pub WithRecording : Outside → List ℕ → ℕ → (List Told → Ending → Type 0) → Ending → Type 0
 WithRecording w path slices More ending =
     IsRecordingCause slices (w.files path) (w.read_before path) (w.read_after path) ending
@@ -228,7 +228,7 @@ pub record EndedWith (w : Outside) (words : List (List ℕ)) (err_before err_aft
 
 -- ---- completeness
 
--- the policy at a path is told, within its limit and accepted, and no count rose for it
+-- the policy at a path is shown, within its limit and accepted, and no count rose for it
 pub record IsReadyPolicy (w : Outside) (path : List ℕ) (p : PolicyView) : Type 0 where
   pub bytes : List ℕ
   pub told : w.files path ≡ Some bytes
@@ -236,7 +236,7 @@ pub record IsReadyPolicy (w : Outside) (path : List ℕ) (p : PolicyView) : Type
   pub says : policy_of (document_of bytes) ≡ Ok p
   pub calm : RoseAt w path → ⊥
 
--- the recording at a path is told, within its limit and accepted under so many slices, and no count rose for it
+-- the recording at a path is shown, within its limit and accepted under so many slices, and no count rose for it
 pub record IsReadyRecording (w : Outside) (path : List ℕ) (slices : ℕ) : Type 0 where
   pub bytes : List ℕ
   pub items : List Item

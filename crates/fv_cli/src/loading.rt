@@ -51,7 +51,7 @@ pub fn load_policy<F: Files>(alloc: Global, files: &mut F, path: &str) -> Result
     };
     match policy_text::read(alloc, &bytes) {
         Ok(policy) => {
-            // A call on the policy tells the proof that it is accepted.
+            // A call on the policy shows the proof that it is accepted.
             let _slices = policy.slices();
             Ok(policy)
         }

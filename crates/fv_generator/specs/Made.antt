@@ -32,11 +32,11 @@ by_slice moment slot message = record { kind = slice_bytes; switch = 0; slot = s
 abbrev pub the_switch : Features
 the_switch = record { datapath = 0xa1; buffers = 256; tables = 1; capabilities = 0; actions = 0xfff; ports = bare_port 1 ∷ bare_port 2 ∷ bare_port 3 ∷ bare_port LOCAL ∷ [] }
 
--- what the switch tells of itself when the proxy asks
+-- what the switch says of itself when the proxy asks
 unfoldable pub features_message : List ℕ
 features_message = spell_features the_switch 0xff000001
 
--- the switch connects and tells of itself, then both slices connect
+-- the switch connects and says what it is, then both slices connect
 abbrev pub opening : List Told
 opening = switch_comes ∷ by_switch 0 features_message ∷ slice_comes 0 ∷ slice_comes 1 ∷ []
 
@@ -59,7 +59,7 @@ slice_round kind number = do
 abbrev pub round_of : ℕ → ℕ → Drawing Told
 round_of kind number = if ltb kind 4 then packet_round number else slice_round kind number
 
--- the record that a round makes, at the moment of its number: of eight kinds four are packet-ins, two flow-mods, one packet-outs and one barriers
+-- the record that a round makes, with its number as the timestamp: of eight kinds four are packet-ins, two flow-mods, one packet-outs and one barriers
 unfoldable pub drawn_round : ℕ → Drawing Told
 drawn_round number = do
   kind ← draw 8
@@ -76,7 +76,7 @@ rounds (suc n) number x = (drawn_round number x).0 ∷ rounds n (number + 1) (dr
 abbrev pub records_of : ℕ → ℕ → List Told
 records_of seed count = opening ++ rounds count 0 seed
 
--- the file that tells them
+-- the file that spells them
 abbrev pub recording_of : ℕ → ℕ → List ℕ
 recording_of seed count = recording (records_of seed count)
 

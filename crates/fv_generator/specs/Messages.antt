@@ -46,7 +46,7 @@ drawn_packet_in = do
   in_port ← drawn_port
   drawn_none (spell_packet_in (record { xid = 0; buffer = buffer; total_len = 54; in_port = in_port; reason = 0; payload = packet_to (tcp_port place) }))
 
--- an entry for the TCP packets from one of 100 ports, in one of four priorities, whose end is to be told
+-- an entry for the TCP packets from one of 100 ports, in one of four priorities, whose removal is to be reported
 abbrev pub drawn_flow_mod : ℕ → Drawing (List ℕ)
 drawn_flow_mod xid = do
   from ← draw 100

@@ -35,7 +35,7 @@ fn features(alloc: Global) -> Result<Frame, AllocError>
     features.encode(alloc, FEATURES_XID)
 }
 
-/// Appends the records with which every made recording begins: the switch and both slices come.
+/// Appends the records with which every made recording begins: the switch and both slices connect.
 pub(crate) fn put_opening(alloc: Global, out: &mut Vec<u8>) -> Result<(), AllocError>
     ensures { OnOk result (out.new.items ≡ out.old.items ++ flat_map record_bytes opening) }
 {

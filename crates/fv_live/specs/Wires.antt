@@ -1,4 +1,4 @@
--- What connections in memory tell. This proxy's own rules.
+-- What connections in memory show. This proxy's own rules.
 use Rattle.std.specs.Prelude.{ℕ, List, [], Option, Some, None, String}
 use Rattle.std.specs.String.{string_bytes}
 

@@ -1,11 +1,11 @@
-//! What tells the time.
+//! What says the time.
 
 ghost use Rattle.std.specs.Prelude.{◌≡◌, ◌<◌, ℕ, List, [], ◌∷◌, Option, Some, None, length, drop, vec_len};
 ghost use Rattle.fv_live.specs.Live.{WasAsked};
 
-/// What tells the time. It can't fail.
+/// What says the time. It can't fail.
 pub trait Clock: Drop {
-    /// The moments that it will answer, the last one from then on; where they are told.
+    /// The timestamps that it will answer, the last one from then on; where they are shown.
     ghost coming: { Self → Option (List ℕ) };
 
     /// The time in milliseconds, which may go back.
@@ -13,7 +13,7 @@ pub trait Clock: Drop {
         ensures { WasAsked (coming self.old) (result ∷ []) (coming self.new) };
 }
 
-/// A clock that answers given moments, one after the other, and the last of them from then on.
+/// A clock that answers given timestamps, one after the other, and the last of them from then on.
 #[derive(Drop)]
 pub struct MemoryClock {
     moments: Vec<u64>,
@@ -22,7 +22,7 @@ pub struct MemoryClock {
 }
 
 impl MemoryClock {
-    /// A clock with these moments, of which there is one at least.
+    /// A clock with these timestamps, of which there is one at least.
     pub fn new(moments: Vec<u64>) -> MemoryClock
         requires { 0 < vec_len moments }
         ensures { ⟦<MemoryClock as Clock>⟧.coming result ≡ Some moments.items }

@@ -23,7 +23,7 @@ pub trait Dialer: Drop {
     /// The half of a link that takes what the controller is sent.
     type Out: Sink;
 
-    /// How many links it gave, where it is told.
+    /// How many links it gave, where it is shown.
     ghost links: { Self → Option ℕ };
 
     /// How often a call for an address has failed.

@@ -1,4 +1,4 @@
-//! Sinks that hold a runtime, for what runs on threads. They may wait, and tell nothing of what was put.
+//! Sinks that hold a runtime, for what runs on threads. They may wait, and show nothing of what was put.
 
 ghost use Rattle.std.specs.Prelude.{None};
 
@@ -27,7 +27,7 @@ impl SharedBytes {
     }
 }
 
-/// A sink that takes all bytes of a put, where other threads may see them. It fails where memory is wanted.
+/// A sink that takes all bytes of a put, where other threads may see them. It fails when memory runs out.
 #[derive(Drop)]
 pub struct SharedSink<R: Wait + Drop> {
     rt: R,

@@ -11,14 +11,15 @@ use fv_base::{Failed, Plan, one_more};
 
 /// Where bytes come from.
 pub trait Source: Drop {
-    /// What is left, where it is told.
+    /// What is left, where it is shown.
     ghost left: { Self → Option (List ℕ) };
 
     /// How often a call has failed.
     ghost faults: { Self → ℕ };
 
-    /// Moves the first bytes of what is left over the front of `into`, and answers how many; where it is told,
-    /// the rest of `into` stays. `Ok(0)` is the end of input. After `Failed` what is left is as before.
+    /// Moves the first bytes of what is left over the front of `into`, and answers how many; where it is
+    /// shown, the rest of `into` stays. `Ok(0)` is the end of input. After `Failed` what is left is as
+    /// before.
     fn take(&mut self, into: &mut [u8]) -> Result<usize, Failed>
         requires { 0 < length into.old }
         ensures within { IfOk result (λ n. n ≤ length into.old) }

@@ -23,15 +23,15 @@ pub trait Work: Drop {
     fn run<R: Host + Net<Listener = TcpListener, Stream = TcpStream>>(self, rt: &R);
 }
 
-/// What starts works on threads of their own.
+/// What starts threads.
 pub trait Spawner<W: Work>: Drop {
-    /// The roles of the works started, in the order of their starts, where they are told.
+    /// The roles of the threads started, in the order of their starts, where they are shown.
     ghost roles: { Self → Option (List Role) };
 
     /// How often a call has failed.
     ghost faults: { Self → ℕ };
 
-    /// It may be asked to start works.
+    /// It may be asked to start threads.
     ghost can_start: { Self → Type 0 };
 
     /// Starts a thread that runs the work. After `Failed` the work was dropped and never ran.
@@ -48,7 +48,7 @@ pub trait Spawner<W: Work>: Drop {
         ensures calm { OnOk result (faults self.new ≡ faults self.old) }
         ensures count { faults self.old ≤ faults self.new };
 
-    /// Waits until all works that were started have ended.
+    /// Waits until all threads that were started have ended.
     fn finish<R: Host + Net<Listener = TcpListener, Stream = TcpStream>>(&mut self, rt: &R)
         requires { can_start self.old }
         ensures ready { can_start self.new }
@@ -56,9 +56,9 @@ pub trait Spawner<W: Work>: Drop {
         ensures calm { faults self.new ≡ faults self.old };
 }
 
-/// A spawner that tells the roles of the works that it started. It starts them by a closure that gives the
-/// thread which runs a work, or drops the work and gives none. A start fails where the list says so, where the
-/// closure gives no thread, and where memory is wanted.
+/// A spawner that shows the roles of the threads that it started. It starts a thread by a closure that gives
+/// the thread which runs a work, or drops the work and gives none. A start fails where the list says so,
+/// where the closure gives no thread, and when memory runs out.
 #[derive(Drop)]
 pub struct MemorySpawner<W: Work, F: FnMut(W) -> Option<JoinHandle<()>> + Drop> {
     by: F,

@@ -38,7 +38,7 @@ pub trait Wires: Drop {
     /// Where it listens.
     ghost place: { Self → List ℕ };
 
-    /// How many connections it accepted, where it is told.
+    /// How many connections it accepted, where it is shown.
     ghost accepted: { Self → Option ℕ };
 
     /// How often a call for a place has failed. An `accept` is for the place at which it listens.
@@ -84,7 +84,7 @@ pub trait Wires: Drop {
 }
 
 /// Connections in memory, in the order in which they are accepted. A call fails where the list says so, an
-/// `accept` also where no connection is left, and a `listen` where memory is wanted. Each place for which
+/// `accept` also where no connection is left, and a `listen` when memory runs out. Each place for which
 /// `listen` was called has a count of its own; where memory for that is wanted, it shares one with the others.
 #[derive(Drop)]
 pub struct MemoryWires<S: Source, K: Sink> {

@@ -1,4 +1,4 @@
--- The messages that are told are those of the summary, and how they are counted.
+-- The messages that are reported are those of the summary, and how they are counted.
 use Rattle.std.proofs.Common.{◌≡◌, inl, inr, ◌+◌, ◌<◌, ◌≤◌, ◌==◌, ℕ, not, Bool, true, false, if◌then◌else◌, List, [], ◌∷◌, ◌++◌, drop, length, refl, sym, ap, ap₂, ◌∙◌, append_assoc, subst, Option, Some, None, Result, Ok, Err, OnOk, slice_get, codes, decimal, arith}
 use Rattle.std.specs.List.{flat_map, enumerate_from}
 use Rattle.std.specs.Prelude.{IfErr}
@@ -28,7 +28,7 @@ use Rattle.event_player.specs.Telling.{Outcome, ToldWhole, HeardPart}
 use Rattle.event_player.proofs.Recorded.{same_number, set_get}
 use Rattle.fv_report.specs.Counting.{CountsMore, lane_said, slice_in, lane_told_in, slice_told_in, IsCount, HasCounted, CountsLine}
 
--- ---- what lines tell of
+-- ---- what lines report
 
 -- a way to pick messages of what is said, that picks none of a closed connection and of an end
 record Picks (picked : Saying → List (List ℕ)) : Type 0 where
@@ -113,7 +113,7 @@ lane_is_picked p place lane messages =
     ∙ ap₂ (λ (a b : List (List ℕ)). a ++ b) (lane_of_lane place lane) (lane_of_slots place messages 0 p.slices)
     ∙ append-nil lane
 
--- the lines of a recording tell of its messages for the switch
+-- the lines of a recording report its messages for the switch
 pub lane_told_of : (p : PolicyView) (records : List Told) → lane_told_in (all_lines p records) ≡ lane_messages p records
 lane_told_of p records = of_events lane_said (λ lane messages. lane) p (record { close = λ name. refl; down = refl }) (lane_is_picked p) 0 (all_happened p records)
 
@@ -155,7 +155,7 @@ slice_is_picked p slot known place lane messages =
     flat_map-append (λ (line : Line). slice_in slot line.saying) (lane_lines place lane) (lines_by_slot place messages 0 p.slices)
     ∙ ap₂ (λ (a b : List (List ℕ)). a ++ b) (slice_of_lane slot place lane) (slice_of_slots slot place messages 0 p.slices (omega arith) (omega (arith, known)))
 
--- the lines of a recording tell of its messages for the slice at a slot
+-- the lines of a recording report its messages for the slice at a slot
 pub slice_told_of : (p : PolicyView) (slot : ℕ) (records : List Told) → slot < length p.slices → slice_told_in slot (all_lines p records) ≡ slice_messages p slot records
 slice_told_of p slot records known = of_events (slice_in slot) (λ lane messages. messages slot) p (record { close = λ name. refl; down = refl }) (slice_is_picked p slot known) 0 (all_happened p records)
 
@@ -170,7 +170,7 @@ counts_same first second from [] same = refl
 counts_same first second from (s ∷ others) same =
     ap₂ (λ (a b : List ℕ). a ++ b) (ap (count_line s.name) (same from (omega arith) (omega arith))) (counts_same first second (from + 1) others (λ slot reached within. same slot (omega (arith, reached)) (omega (arith, within))))
 
--- what the lines of a recording tell of is summed in its summary
+-- what the lines of a recording report is summed in its summary
 pub summary_told : (p : PolicyView) (records : List Told) → let lines = all_lines p records in summary_text (event_count p records) (lane_told_in lines) (λ slot. slice_told_in slot lines) p.slices ≡ summary p records
 summary_told p records =
     let lines = all_lines p records in
@@ -229,7 +229,7 @@ pub ok_so : {A E P Q : Type 0} (result : Result A E) → OnOk result P → (P �
 ok_so (Ok value) holds so = so holds
 ok_so (Err fault) holds so = tt
 
--- a line is counted where it was told whole
+-- a line is counted where it was reported whole
 pub told_as : (outcome : Outcome) (saying : Saying) (old new : Counter) → OnOk outcome (CountsLine saying (Ok tt) old new) → IfErr outcome (λ f. f ≡ Memory) → CountsLine saying outcome old new
 told_as (Ok value) saying old new holds memory = holds
 told_as (Err fault) saying old new holds memory = memory
@@ -247,7 +247,7 @@ counts_as slots lane other_lane slices other_slices counter same same_slices cou
   for_slices = λ slot count is. subst (λ (messages : List (List ℕ)). IsCount messages count) (same_slices slot) (counts.for_slices slot count is);
 }
 
--- after lines that were told the messages that they tell of are counted
+-- after lines that were reported the messages that they report are counted
 pub counted_lines : (lines : List Line) (old new : Counter) (slots : ℕ) (lane : List (List ℕ)) (slices : ℕ → List (List ℕ)) → HasCounted slots lane slices old → ToldWhole (λ was line outcome is. CountsLine line.saying outcome was is) old lines new
     → HasCounted slots (lane ++ lane_told_in lines) (λ slot. slices slot ++ slice_told_in slot lines) new
 counted_lines [] old new slots lane slices counts same =

@@ -1,4 +1,4 @@
--- The text of what is told, and what a writer writes of it.
+-- The text of what is reported, and what a writer writes of it.
 use Rattle.std.proofs.Common.{◌≡◌, inl, inr, ℕ, List, [], ◌∷◌, ◌++◌, refl, sym, ap, ◌∙◌, subst, Option, Result, Ok, Err}
 use Rattle.std.specs.List.{flat_map}
 use Rattle.std.specs.Result.{IsErrAnd}
@@ -78,7 +78,7 @@ pub record HasWritten {A T X : Type 0} (seen : T → X) (contents : T → Option
   pub writes : Wrote result text (contents old) (contents new)
   pub counted : Counted result (faults old) (faults new)
 
--- all lines of a recording were told, and then the number of its events was put
+-- all lines of a recording were reported, and then the number of its events was put
 pub report_ended : {A T X : Type 0} (seen : T → X) (contents : T → Option (List ℕ)) (faults : T → ℕ) (p : PolicyView) (records : List Told) (result : Result A ReportFault) (old now new : T) → ToldWhole (Writes seen contents faults) old (all_lines p records) now
     → seen new ≡ seen now → Wrote result (last_line (event_count p records)) (contents now) (contents new) → Counted result (faults now) (faults new) → HasWritten seen contents faults result (report p records) old new
 report_ended seen contents faults p records result old now new told same last counted =

@@ -1,4 +1,4 @@
--- What is told is counted (this proxy's own rule).
+-- What is reported is counted (this proxy's own rule).
 use Rattle.std.specs.Prelude.{ℕ, ◌≡◌, ◌+◌, ◌==◌, if◌then◌else◌, List, [], ◌∷◌, ◌++◌, length, slice_get, Some, Ok, Err}
 use Rattle.std.specs.List.{flat_map}
 use Rattle.outbox.specs.Queues.{size}
@@ -13,17 +13,17 @@ pub record CountsMore (message : List ℕ) (old new : Count) : Type 0 where
   pub messages : new.messages ≡ old.messages + 1
   pub bytes : new.bytes ≡ old.bytes + length message
 
--- the message for the switch that is told of, if one is
+-- the message for the switch that is reported, if one is
 abbrev pub lane_said : Saying → List (List ℕ)
 lane_said (Lane message) = message ∷ []
 lane_said saying = []
 
--- the message for the slice at a slot that is told of, if one is
+-- the message for the slice at a slot that is reported, if one is
 abbrev pub slice_in : ℕ → Saying → List (List ℕ)
 slice_in slot (To at name message) = if at == slot then message ∷ [] else []
 slice_in slot saying = []
 
--- the messages for the switch that lines tell of
+-- the messages for the switch that lines report
 abbrev pub lane_told_in : List Line → List (List ℕ)
 lane_told_in lines = flat_map (λ line. lane_said line.saying) lines
 

@@ -1,4 +1,4 @@
-//! The messages that are told are counted.
+//! The messages that are reported are counted.
 
 ghost use Rattle.std.specs.Prelude.{ℕ, ◌≡◌, List, [], Ok, OnOk, IfOk, IfErr};
 ghost use Rattle.desk_words.specs.Reports.{To};
@@ -35,7 +35,7 @@ impl Count {
     }
 }
 
-/// Counts what is told of messages for the switch and for the slice at each slot.
+/// Counts what is reported of messages for the switch and for the slice at each slot.
 #[derive(Drop)]
 pub(crate) struct Counter {
     pub(crate) lane: Count,
@@ -43,7 +43,7 @@ pub(crate) struct Counter {
 }
 
 impl Counter {
-    /// Nothing was told yet.
+    /// Nothing was reported yet.
     pub(crate) fn new(alloc: Global, slices: u8) -> Result<Counter, AllocError>
         ensures { IfOk result (HasCounted slices [] (λ slot. [])) }
     {

@@ -189,7 +189,7 @@ pub(crate) fn put<K: Sink>(out: &mut K, bytes: &[u8]) -> Result<(), ReportFault>
     }
 }
 
-/// Writes what is told as lines of a report.
+/// Writes what is reported as lines of a report.
 #[derive(Drop)]
 pub(crate) struct Writer<'a, K: Sink> {
     pub(crate) out: &'a mut K,

@@ -28,10 +28,10 @@ fn write_file<K: Sink>(
     player.teller.put_last(player.place.number)
 }
 
-/// Writes the report of a recording to `out`: for each event a line for each message that the switch and
-/// the slices get, for a connection that is closed and for the end of the switch's, and at the end how many
-/// events there were. A fault leaves a prefix of the report. Each record is read as it is played, so that
-/// memory is taken for what is played alone.
+/// Writes the report of a recording to `out`. Each event has a line for each message that the switch and the
+/// slices get, for a connection that is closed, and for the end of the switch's connection. At the end stands
+/// how many events there were. A fault leaves a prefix of the report. Each record is read as it is played, so
+/// that memory is taken for what is played alone.
 pub fn report<K: Sink>(
     alloc: Global,
     policy: &Policy,

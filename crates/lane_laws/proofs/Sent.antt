@@ -194,9 +194,9 @@ lane_or_some policy h timed slot message is =
           ]
     ]
 
--- ---- by what the switch told of itself
+-- ---- by what the switch said of itself
 
--- what a message is answered by where the switch told this
+-- what a message is answered by where the switch said this
 abbrev pub ground_by : PolicyView → ℕ → List Timed → Option Features → Ground
 ground_by policy slot h told = ground_of (settings_at policy slot told) (view_of policy slot h) (past_of (settings_at policy slot told) (view_of policy slot h))
 
@@ -212,7 +212,7 @@ some_told : (told : Option Features) → has_told told ≡ true → (features : 
 some_told None is = absurd (true≢false (sym is))
 some_told (Some features) is = (features, refl)
 
--- where a slice is up the switch has told what it is
+-- where a slice is up the switch has said what it is
 pub told_up : (policy : PolicyView) (slot : ℕ) (h : List Timed) → is_slice_up policy slot h ≡ true → (features : Features) × (opening_of h ≡ Some features)
 told_up policy slot h up = some_told (opening_of h) (opened_told h (and_parts (is_open (phase_of h)) (is_up (view_of policy slot h)) up).0)
 
@@ -387,7 +387,7 @@ judged policy slot h features is here origin actions =
     permitted_alike (rules_on features.datapath policy.rules) slot s.slot s.patterns (known_ports (view_of policy slot h)) (ports_after h) origin actions
     (slot_is policy slot (Some features) (slice_get policy.slices slot) refl) (patterns_are policy slot (Some features) here) (ports_are policy slot h features is here)
 
--- the same by whatever the switch told
+-- the same by whatever the switch said
 judged_by : (policy : PolicyView) (slot : ℕ) (h : List Timed) → is_slice_up policy slot h ≡ true → (origin : Ground → Origin) (actions : List Action)
     → permitted (lone_rules (settings_in policy slot h).slot (settings_in policy slot h).patterns) (settings_in policy slot h).slot (origin (ground_in policy slot h)) actions
     (flooded false (known_ports (view_of policy slot h))) (flooded true (known_ports (view_of policy slot h)))

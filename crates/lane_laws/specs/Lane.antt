@@ -106,7 +106,7 @@ packet_out_at policy slot h m =
       | Some packet ↦ record (packet_out_on (ground_in policy slot h) m) { buffer = switch_number policy slot h packet.ordinal }
     ]
 
--- a message that comes from the slice at a moment keeps the slice's rate
+-- a message that comes from the slice at a timestamp keeps the slice's rate
 abbrev pub KeepsRate : PolicyView → ℕ → List Timed → ℕ → Type 0
 KeepsRate policy slot h moment = keeps_rate (settings_in policy slot h) (view_of policy slot h) (past_of (settings_in policy slot h) (view_of policy slot h)) moment ≡ true
 

@@ -38,12 +38,12 @@ ghost use Rattle.flow_facts.specs.Messages.{IsSentThat, IsReadThat};
 ghost use Rattle.desk_words.specs.Arrivals.{IsBufferHeader};
 ghost use Rattle.lane_laws.specs.Lane.{IsOfBytes, CarriesOwnBuffer, SendsOwnBuffer, HoldsWritten, KeepsWritten, KeepsRanged, IsKeptHeader, rules_in, settings_in, ports_shown, ground_in, flow_mods_at, packet_out_at, IsPermitted, IsPermittedOut, IsPermittedInquiry, IsAnyPermitted};
 
-/// Whatever a message of a slice has sent to the switch is a flow-mod, and the slice writes each header of its
-/// match; or it is a packet-out of a packet that the slice writes, or of a probe with the slice's mark; or it is
-/// neither, and asks for statistics, for a port's queues, or for the reply to a barrier. The flow-mod's match is
-/// normal, and the fields of both lie in their ranges, so that the message is the bytes of no other
-/// (`messages_tell_their_fields`). Here and in the next three laws the messages are of bytes and the rules' matches
-/// are normal, as each `u8` and each `Match` is.
+/// Whatever a message of a slice has sent to the switch is a flow-mod of headers that the slice writes, a
+/// packet-out of a packet that the slice writes or of a probe with the slice's mark, or an inquiry. The slice
+/// writes each header of the flow-mod's match. An inquiry is neither, and asks for statistics, for a port's
+/// queues, or for the reply to a barrier. The flow-mod's match is normal, and the fields of both lie in their
+/// ranges, so that the message is the bytes of no other (`messages_tell_their_fields`). Here and in the next
+/// three laws the messages are of bytes and the rules' matches are normal, as each `u8` and each `Match` is.
 pub fn messages_lie_in_the_flowspace()
     ensures { (policy : PolicyView) → IsPolicy policy.slices policy.rules → AreNormal policy.rules → (h : List Timed) (timed : Timed) (slot : ℕ) (message : List ℕ) → All (λ t. IsOfBytes t.event) (timed ∷ h)
         → timed.event ≡ SliceMsg slot message → All (IsSentThat (LiesInFlowspace (rules_in policy h) slot) (SendsOwnPacket (IsBufferHeader h) (rules_in policy h) slot)) (lane_by policy h timed) }
@@ -64,29 +64,30 @@ pub fn other_headers_are_treated_as_before()
 {}
 
 /// Where such a message carries a number, the last packet-in that has the number gave its packet to the slice
-/// as the one who writes it, and the packet lies in what the slice writes; that of a flow-mod, in its match, too.
-/// The slice writes the header of each packet that it holds.
+/// as the one who writes it. The packet lies in what the slice writes, and that of a flow-mod lies in the
+/// flow-mod's match too. The slice writes the header of each packet that it holds.
 pub fn buffers_are_the_slices_own()
     ensures messages { (policy : PolicyView) → AreNormal policy.rules → (h : List Timed) (timed : Timed) (slot : ℕ) (message : List ℕ) → All (λ t. IsOfBytes t.event) (timed ∷ h)
         → timed.event ≡ SliceMsg slot message → All (IsSentThat (CarriesOwnBuffer policy slot h) (SendsOwnBuffer policy slot h)) (lane_by policy h timed) }
     ensures held { (policy : PolicyView) (h : List Timed) (slot : ℕ) → HoldsWritten (rules_in policy h) slot (settings_in policy slot h) (side_of policy slot h).sight }
 {}
 
-/// Where the messages of the switch and of the slice are of bytes, a switch reads whatever it has sent as a
-/// flow-mod or a packet-out of which all this holds; and each packet that its actions send is, as the actions
-/// before rewrite it, one that the slice writes by some port of entry, and by its own where it is sent to the
-/// controller or through the table. Probes are excepted. Or the switch reads it as a barrier, as a request for
-/// statistics of the slice's ports or of all, or as a question for the queues of one of its ports.
+/// Where the messages of the switch and of the slice are of bytes, a switch reads whatever such a message has
+/// sent as a flow-mod or a packet-out of which all this holds. Each packet that the actions send is, as the
+/// actions before rewrite the packet, one that the slice writes by some port of entry. A packet that is sent
+/// to the controller or through the table is one that the slice writes by the packet's own port of entry.
+/// Probes are excepted. Or the switch reads what was sent as a barrier, as a request for statistics of the
+/// slice's ports or of all, or as a question for the queues of one of its ports.
 pub fn switches_read_such_messages()
     ensures { (policy : PolicyView) → IsPolicy policy.slices policy.rules → AreNormal policy.rules → (h : List Timed) (timed : Timed) (slot : ℕ) (message : List ℕ) → All (λ t. IsOfBytes t.event) (timed ∷ h)
         → timed.event ≡ SliceMsg slot message → All (IsReadThat (StaysWithin (rules_in policy h) slot) (SendsWithin (IsBufferHeader h) (rules_in policy h) slot) (rules_in policy h) slot) (lane_by policy h timed) }
 {}
 
-/// A flow-mod of a slice that is up is sent where it keeps the rate and no line refuses it: exactly its
-/// messages, one for each piece of its match that the slice writes, with the actions that the slice may have
-/// for the piece by the rules of the switch; where it names a packet, the first whose piece has the packet's
-/// header carries the switch's number for it. Nothing but these, permitted packet-outs and permitted inquiries is
-/// sent for a slice.
+/// A flow-mod of a slice that is up is sent where it keeps the rate and no line refuses it. Exactly its
+/// messages are sent, one for each piece of its match that the slice writes, with the actions that the slice
+/// may have for the piece by the rules of the switch. Where the flow-mod names a packet, the first message
+/// whose piece has the packet's header carries the switch's number for the packet. Nothing but these,
+/// permitted packet-outs and permitted inquiries is sent for a slice.
 pub fn permitted_flow_mods_are_sent()
     ensures sent { (policy : PolicyView) (h : List Timed) (timed : Timed) (slot : ℕ) (message : List ℕ) (m : FlowMod) → timed.event ≡ SliceMsg slot message → is_slice_up policy slot h ≡ true
         → IsPermitted policy slot h timed.moment message m → lane_by policy h timed ≡ map spell_flow_mod (flow_mods_at policy slot h m) }
@@ -97,9 +98,9 @@ pub fn permitted_flow_mods_are_sent()
         → (lane_by policy h timed ≡ []) ⊎ ((is_slice_up policy slot h ≡ true) × IsAnyPermitted policy slot h timed.moment message) }
 {}
 
-/// A packet-out of a slice that is up is sent where it keeps the rate and no line refuses it: exactly one, with
-/// the actions that the slice may have by the rules of the switch, and with the switch's number for the packet
-/// that it names.
+/// A packet-out of a slice that is up is sent where it keeps the rate and no line refuses it. Exactly one is
+/// sent, with the actions that the slice may have by the rules of the switch, and with the switch's number
+/// for the packet that it names.
 pub fn permitted_packet_outs_are_sent()
     ensures sent { (policy : PolicyView) (h : List Timed) (timed : Timed) (slot : ℕ) (message : List ℕ) (m : PacketOut) → timed.event ≡ SliceMsg slot message → is_slice_up policy slot h ≡ true
         → IsPermittedOut policy slot h timed.moment message m → lane_by policy h timed ≡ spell_packet_out (packet_out_at policy slot h m) ∷ [] }
@@ -123,11 +124,11 @@ pub fn permitted_inquiries_are_sent()
 {}
 
 /// The first three hold of what `slice_side::react` has sent on by its clause `sent`, for the policy, the ports
-/// and the state that it is given, whatever the state stands for, where the slice writes the header of each packet
-/// that the state holds. In the place of the header under a number is that of the packet that is held. Where the
-/// state stands for what the slice sees of a history, the slice writes these headers. The rules' matches are
-/// normal, the message is of bytes, and the switch's numbers and the ports of the packets that are held have their
-/// 32 and 16 bits, as each `Match`, `u8`, `u32` and `u16`.
+/// and the state that it is given. They hold whatever the state stands for, where the slice writes the header
+/// of each packet that the state holds. In the place of the header under a number is that of the packet that
+/// is held. Where the state stands for what the slice sees of a history, the slice writes these headers. The
+/// rules' matches are normal, the message is of bytes, and the switch's numbers and the ports of the packets
+/// that are held have their 32 and 16 bits, as each `Match`, `u8`, `u32` and `u16`.
 pub fn reactions_stay_within_the_slice()
     ensures flowspace { (policy : SwitchView) (known : List (List ℕ)) (state : SliceState) (slot : ℕ) (message : List ℕ) (sent : List (List ℕ))
         → IsSwitchPolicy policy.slices policy.rules → KeepsWritten policy.rules slot state → AreNormal policy.rules → KeepsRanged state → All (λ byte. byte < 256) message → AreSentOn policy.rules slot known state (read_turned (pairs_of policy.swaps slot) message) sent

@@ -147,7 +147,7 @@ pub fn told_to_all<R: Wait>(
     ])
 }
 
-/// A switch that tells what it is, and then a message that isn't answered.
+/// A switch that says what it is, and then a message that isn't answered.
 pub const SWITCH: Device = Device {
     says: Stream {
         first: &[FEATURES],

@@ -1,4 +1,4 @@
-//! Switches and controllers in memory, a desk between them, and what starts works on threads, for the tests of
+//! Switches and controllers in memory, a desk between them, and what starts threads, for the tests of
 //! other crates.
 //!
 //! Digits that spell no bytes are a mistake in a test. They are answered as out of memory, so that the test fails.

@@ -36,7 +36,7 @@ pub const ALICE: &str = "127.0.0.1:6633";
 
 pub const BOB: &str = "127.0.0.1:6634";
 
-/// What a switch tells of itself that has three ports and its own.
+/// What a switch says of itself that has three ports and its own.
 pub const FEATURES: &str = "\
 010600e0ff00000100000000000000a100000100010000000000000000000fff\
 00010000000000000000000000000000000000000000000000000000000000000000000000000000000000000000\

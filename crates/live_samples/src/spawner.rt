@@ -1,4 +1,4 @@
-//! What starts works on threads by a closure. Nothing is told of which it started.
+//! What starts threads by a closure. Nothing is said of which it started.
 
 ghost use Rattle.std.specs.Prelude.{◌≡◌, ◌≤◌, ◌<◌, None, OnOk, OnErr, vec_len, vec_capacity};
 ghost use Rattle.fv_base.specs.Told.{Rose};
@@ -10,7 +10,7 @@ use std::mem;
 use std::net::{Net, TcpListener, TcpStream};
 use std::thread::JoinHandle;
 
-/// Starts works by a closure, which gives the thread that runs a work, or drops the work and gives none.
+/// Starts threads by a closure, which gives the thread that runs a work, or drops the work and gives none.
 #[derive(Drop)]
 pub struct ClosureSpawner<F: Drop> {
     alloc: Global,

@@ -1,4 +1,4 @@
--- Connections that are accepted one after another, and the groups of works that are started for them.
+-- Connections that are accepted one after another, and the groups of threads that are started for them.
 use Rattle.std.proofs.Common.{◌≡◌, ◌≤◌, ◌<◌, ℕ, zero, suc, ◌+◌, List, ◌++◌, refl, sym, ap, subst, ◌∙◌, append_assoc, append-nil, add-one, arith, inl, inr, ◌⊎◌}
 use Rattle.std.specs.Prelude.{Option}
 use Rattle.fv_live.specs.Live.{count_more}
@@ -58,7 +58,7 @@ begun_whole addresses n m a b c o le e k = record {
   roles = (groups m addresses, groups_first m n addresses le, k ∙ o.roles);
 }
 
--- one more was accepted, and some of its works were started
+-- one more was accepted, and some of its threads were started
 pub begun_part : (addresses : List (List ℕ)) (n m : ℕ) (a b c : ServeOutside) → Opened addresses n m a b → m ≤ n → c.accepted ≡ count_more b.accepted 1 → Partly b.roles (group addresses) c.roles → SomeGroups addresses a c
 begun_part addresses n m a b c o le e p =
     let rest = groups_split m (n + 1) addresses (omega (arith, le)) in
@@ -79,7 +79,7 @@ served addresses n m count a b o le few all enough =
       enough = subst (λ i. (i ≤ m) ⊎ (16 ≤ m)) e enough;
     }
 
--- why a run ended whose works weren't all started
+-- why a run ended whose threads weren't all started
 pub not_started : (addresses : List (List ℕ)) (count : ℕ) (a b : ServeOutside) (fault : StartFault) (end : RunEnd) → EndsBy fault end → SomeGroups addresses a b → (fault ≡ Start → Rose a.start_faults b.start_faults) → IsRunCause addresses count a b end
 not_started addresses count a b Start end e begun rose = subst (λ end. IsRunCause addresses count a b end) (sym e) (begun, rose refl)
 not_started addresses count a b Memory end e begun rose = subst (λ end. IsRunCause addresses count a b end) (sym e) begun

@@ -1,4 +1,4 @@
--- Causes of a finish, seen at other names of the same moments, and what they say where no count rose.
+-- Causes of a finish, seen at other names of the same times, and what they say where no count rose.
 use Rattle.std.proofs.Common.{◌≡◌, ◌≤◌, ℕ, List, length, refl, sym, ap, subst, arith, inl, inr, ◌⊎◌, ◌∙◌}
 use Rattle.std.specs.Prelude.{Option, Some, None, Ok, Err}
 use Rattle.fv_base.specs.Words.{FormBytes, OfServe}
@@ -15,7 +15,7 @@ use Rattle.live_serve.specs.declared.finish.Finish.TheVariants.{Early, Ran}
 use Rattle.live_serve.specs.Running.{ServeOutside, outside, IsRunCause}
 use Rattle.live_serve.specs.Serving.{ServeReads, Places, ServeCauses, IsServeCause, IsPolicyToServe, AreCalm, ServeCompletes, finish_status}
 
--- the spawner told the same at the end
+-- the spawner showed the same at the end
 pub cause_kept : (w : ServeReads) (a : Places) (accepted : Option ℕ) (roles roles' : Option (List Role)) (h : List ℕ → ℕ) (s s' : ℕ) (form : Option FormBytes) (finish : Finish) →
     roles' ≡ roles → s' ≡ s →
     ServeCauses w a (λ at. outside accepted roles (h at) s) form finish →

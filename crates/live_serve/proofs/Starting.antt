@@ -1,4 +1,4 @@
--- Works that are started one after another.
+-- Threads that are started one after another.
 use Rattle.std.proofs.Common.{◌≡◌, inl, inr, ◌≤◌, ◌<◌, ℕ, ◌+◌, List, [], ◌∷◌, ◌++◌, refl, sym, ap, ◌∙◌, append_assoc, append-nil, arith, drop, map, length, get_or}
 use Rattle.std.proofs.lemmas.List.{drop_more}
 use Rattle.std.specs.Prelude.{Option, Some, None}
@@ -17,7 +17,7 @@ started_twice (Some before) xs ys = ap Some (append_assoc before xs ys)
 pub partly_none : (told after : Option (List Role)) (all : List Role) → after ≡ told → Partly told all after
 partly_none told after all e = ([], (all, refl), e ∙ started_none told)
 
--- some of the next works were started, after all before them
+-- some of the next threads were started, after all before them
 pub partly_more : (told mid after : Option (List Role)) (xs ys rest all : List Role) → mid ≡ started told xs → (xs ++ (ys ++ rest)) ≡ all → Partly mid ys after → Partly told all after
 partly_more told mid after xs ys rest all e w p = (
   xs ++ p.0,
@@ -32,7 +32,7 @@ pub rose_later : (old mid new : ℕ) → old ≤ mid → Rose mid new → Rose o
 rose_later old mid new le (inl h) = inl (omega (arith, le, h))
 rose_later old mid new le (inr h) = inr h
 
--- the works of the slices from a slot on are those of its slice and those of the next ones
+-- the threads of the slices from a slot on are those of its slice and those of the next ones
 pub next_roles : {A : Type 0} → (f : A → List ℕ) (xs : List A) (i : ℕ) (x : A) (address : List ℕ) → i < length xs → x ≡ get_or xs i x → address ≡ f x → slice_roles i (map f (drop i xs)) ≡ pair i address ++ slice_roles (i + 1) (map f (drop (i + 1) xs))
 next_roles f xs i x address within e a =
     let split : drop i xs ≡ x ∷ drop (i + 1) xs = drop_more xs i x within ∙ ap (λ y. y ∷ drop (i + 1) xs) (sym e) in

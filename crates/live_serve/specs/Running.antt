@@ -9,7 +9,7 @@ use Rattle.live_serve.specs.declared.accept.RunEnd.{RunEnd}
 use Rattle.live_serve.specs.declared.accept.RunEnd.TheVariants.{Done, NoMemory, WireFault, NoThread}
 use Rattle.live_serve.specs.Roles.{groups, Partly}
 
--- the outside at one moment: how many connections were accepted and which works were started, where these are told; and how often a call for the place and a start have failed
+-- the outside at one time: how many connections were accepted and which threads were started, where these are shown; and how often a call for the place and a start have failed
 pub record ServeOutside : Type 0 where
   pub accepted : Option ℕ
   pub roles : Option (List Role)
@@ -19,12 +19,12 @@ pub record ServeOutside : Type 0 where
 abbrev pub outside : Option ℕ → Option (List Role) → ℕ → ℕ → ServeOutside
 outside accepted roles wire_faults start_faults = record { accepted = accepted; roles = roles; wire_faults = wire_faults; start_faults = start_faults }
 
--- so many connections were accepted, and whole groups of works were started for so many of them
+-- so many connections were accepted, and whole groups of threads were started for so many of them
 pub record Opened (addresses : List (List ℕ)) (connections sessions : ℕ) (a b : ServeOutside) : Type 0 where
   pub accepted : b.accepted ≡ count_more a.accepted connections
   pub roles : b.roles ≡ started a.roles (groups sessions addresses)
 
--- some connections were accepted, and the works that were started begin as many groups
+-- some connections were accepted, and the threads that were started begin as many groups
 pub record SomeGroups (addresses : List (List ℕ)) (a b : ServeOutside) : Type 0 where
   pub connections : ℕ
   pub accepted : b.accepted ≡ count_more a.accepted connections
@@ -48,7 +48,7 @@ IsRunCause addresses count a b NoMemory = SomeGroups addresses a b
 IsRunCause addresses count a b WireFault = SomeGroups addresses a b × Rose a.wire_faults b.wire_faults
 IsRunCause addresses count a b NoThread = SomeGroups addresses a b × Rose a.start_faults b.start_faults
 
--- the end of a run whose works weren't all started
+-- the end of a run whose threads weren't all started
 abbrev pub EndsBy : StartFault → RunEnd → Type 0
 EndsBy Start end = end ≡ NoThread
 EndsBy Memory end = end ≡ NoMemory

@@ -33,7 +33,7 @@ finish_line (Ran end) = run_line end
 
 -- ---- causes
 
--- the files where they are told, and the counts of their paths before and after
+-- the files where they are shown, and the counts of their paths before and after
 pub record ServeReads : Type 0 where
   pub files : List ℕ → Option (List ℕ)
   pub before : List ℕ → ℕ
@@ -44,7 +44,7 @@ abbrev pub IsServeCause : ServeReads → List ℕ → ℕ → ServeOutside → S
 IsServeCause w policy count a b (Early ending) = IsPolicyCause (w.files policy) (w.before policy) (w.after policy) ending × Untouched a b
 IsServeCause w policy count a b (Ran end) = (p : PolicyView) × HasPolicy p (w.files policy) × IsRunCause (map controller_of p.slices) count a b end
 
--- the outside at one moment, with the count of each place
+-- the outside at one time, with the count of each place
 abbrev pub Places : Type 0
 Places = List ℕ → ServeOutside
 
@@ -68,7 +68,7 @@ pub record ServeEnded (w : ServeReads) (a b : Places) (words : List (List ℕ)) 
 
 -- ---- completeness
 
--- the policy at a path is told, within its limit and accepted, and no count rose for it
+-- the policy at a path is shown, within its limit and accepted, and no count rose for it
 pub record IsPolicyToServe (w : ServeReads) (path : List ℕ) : Type 0 where
   pub bytes : List ℕ
   pub p : PolicyView

@@ -37,7 +37,8 @@ fn is_full<R: Wait>(rt: &R, sessions: &Sessions, begun: u32) -> bool
     begun >= SESSIONS && sessions.are_full(rt)
 }
 
-/// Starts the works of one connection. Where all were started, a session more runs, and they are given the halves.
+/// Starts the threads of one connection. Where all were started, a session more runs, and they are given the
+/// halves.
 fn open<
     R: Host + Net<Listener = TcpListener, Stream = TcpStream>,
     N: Wires,
@@ -77,8 +78,8 @@ fn open<
     Ok(())
 }
 
-/// Accepts so many connections, and starts a session for each, or closes it at once where 16 sessions run, or works of
-/// 48.
+/// Accepts so many connections, and starts a session for each. Closes a connection at once where 16 sessions
+/// run, or threads of 48 connections.
 pub(crate) fn accept_all<
     R: Host + Net<Listener = TcpListener, Stream = TcpStream>,
     N: Wires,
@@ -120,7 +121,7 @@ pub(crate) fn accept_all<
     RunEnd::Done
 }
 
-/// How a run ends by a fault in starting a connection's works.
+/// How a run ends by a fault in starting a connection's threads.
 fn run_end(fault: StartFault) -> RunEnd
     ensures { EndsBy fault result }
 {

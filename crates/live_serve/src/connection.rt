@@ -1,4 +1,4 @@
-//! What the works of one connection share. None of the waiting has a clause.
+//! What the threads of one connection share. None of the waiting has a clause.
 
 ghost use Rattle.std.specs.Prelude.{◌≡◌, ◌^◌, IfOk};
 ghost use Rattle.std.specs.Arc.{arc_value};
@@ -14,11 +14,11 @@ use turn_desk::{TurnDesk, TurnSeat};
 /// How many sessions run at once.
 pub(crate) const SESSIONS: u32 = 16;
 
-/// Of how many connections works may run at once, those included whose switch has gone while works of slices still
-/// dial or write.
+/// Of how many connections threads may run at once, those included whose switch has disconnected while
+/// threads of slices still dial or write.
 const CONNECTIONS: u32 = 48;
 
-// How many sessions run, and of how many connections works do.
+// How many sessions run, and of how many connections threads do.
 #[derive(Drop)]
 struct Running {
     sessions: u32,
@@ -66,8 +66,8 @@ impl Sessions {
     }
 }
 
-// Whether all works of the connection were started, none before that is known; then the switch's halves until
-// they are taken; and how many works of the switch, and how many of all, haven't ended.
+// Whether all threads of the connection were started, none before that is known; then the switch's halves
+// until they are taken; and how many threads of the switch, and how many of all, haven't ended.
 #[derive(Drop)]
 struct Word<N: Wires> {
     started: Option<bool>,
@@ -77,7 +77,7 @@ struct Word<N: Wires> {
     works: u32,
 }
 
-/// What the works of one connection share.
+/// What the threads of one connection share.
 #[derive(Drop)]
 pub(crate) struct Connection<N: Wires> {
     pub(crate) alloc: Global,
@@ -134,7 +134,7 @@ impl<N: Wires> Connection<N> {
         Ok((Arc::new(alloc, connection)?, seat))
     }
 
-    /// Gives the word that all works were started, and with it the switch's halves.
+    /// Gives the word that all threads were started, and with it the switch's halves.
     pub(crate) fn begin<R: Wait>(&self, rt: &R, source: N::In, sink: N::Out) {
         let mut word = self.word.lock(rt);
         word.started = Some(true);
@@ -144,7 +144,7 @@ impl<N: Wires> Connection<N> {
         self.given.notify_all();
     }
 
-    /// Gives the word that a work wasn't started.
+    /// Gives the word that a thread wasn't started.
     pub(crate) fn cancel<R: Wait>(&self, rt: &R) {
         let mut word = self.word.lock(rt);
         word.started = Some(false);
@@ -152,7 +152,7 @@ impl<N: Wires> Connection<N> {
         self.given.notify_all();
     }
 
-    /// Waits for the word, and answers whether all works were started.
+    /// Waits for the word, and answers whether all threads were started.
     pub(crate) fn is_started<R: Wait>(&self, rt: &R) -> bool {
         let word = self
             .given
@@ -172,8 +172,8 @@ impl<N: Wires> Connection<N> {
         word.sink.take()
     }
 
-    /// A work of the switch has ended. With both of them another session may take the place of this one, though works
-    /// of its slices may still dial or write for a while.
+    /// A thread of the switch has ended. Once both have, another session may take the place of this one,
+    /// though threads of its slices may still dial or write for a while.
     pub(crate) fn end_of_switch<R: Wait>(&self, rt: &R) {
         let mut word = self.word.lock(rt);
         word.works_of_switch = word.works_of_switch.saturating_sub(1);
@@ -184,7 +184,7 @@ impl<N: Wires> Connection<N> {
         }
     }
 
-    /// A work has ended.
+    /// A thread has ended.
     pub(crate) fn end_work<R: Wait>(&self, rt: &R) {
         let mut word = self.word.lock(rt);
         word.works = word.works.saturating_sub(1);

@@ -16,10 +16,10 @@ use std::net::{Net, TcpListener, TcpStream};
 use std::sync::Arc;
 use turn_desk::TurnSeat;
 
-/// How many calls the seat of a work has.
+/// How many calls the seat of a thread has.
 const CALLS: u64 = 1 << 40;
 
-/// Why not all works were started.
+/// Why not all threads were started.
 #[derive(Clone, Copy)]
 pub(crate) enum StartFault {
     /// A start failed.
@@ -28,7 +28,7 @@ pub(crate) enum StartFault {
     Memory,
 }
 
-/// The allocator of the works, and the clock and the gate of which each reader is given clones.
+/// The allocator of the threads, and the clock and the gate of which each reader is given clones.
 #[derive(Drop)]
 pub(crate) struct WorkFacts<'a, C: Clock, G: Gate> {
     pub(crate) alloc: Global,
@@ -43,7 +43,7 @@ struct SliceAddress<'a> {
     address: &'a str,
 }
 
-/// Starts one work with a seat of its own.
+/// Starts one thread with a seat of its own.
 fn start_one<
     R: Host + Net<Listener = TcpListener, Stream = TcpStream>,
     N: Wires,
@@ -208,7 +208,7 @@ fn start_switch<
     start_one(rt, connection, seat, Job::WriteSwitch, spawner)
 }
 
-/// Starts the works of one connection.
+/// Starts the threads of one connection.
 pub(crate) fn start_group<
     R: Host + Net<Listener = TcpListener, Stream = TcpStream>,
     N: Wires,

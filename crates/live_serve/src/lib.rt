@@ -1,4 +1,4 @@
-//! The live proxy: the works of a connection, how groups of them are started, and the call that serves.
+//! The live proxy: the threads of a connection, how groups of them are started, and the call that serves.
 #![tactic(auto)]
 
 mod accept;

@@ -82,7 +82,7 @@ fn serve_with<
         Ok(policy) => policy,
         Err(ending) => return Finish::Early(ending),
     };
-    // A call on the policy tells the proof that it is accepted.
+    // A call on the policy shows the proof that it is accepted.
     let _slices = policy.slices();
     let end = run(
         rt,
@@ -146,18 +146,18 @@ fn decide<
 }
 
 /// Does `serve POLICY LISTEN COUNT`: listens at LISTEN, accepts COUNT connections of switches, and runs a session
-/// under the policy for each, at most 16 at once: a connection that is accepted while 16 run is closed, and so is one
-/// that is accepted while works of 48 connections run. Each session's works run on threads that `spawner` starts,
-/// with clones of the clock and of the gate. Each status but 0 has a line, which goes to `err`. Once no more connections
-/// are accepted it stops listening and puts that line; then it waits until all sessions have ended, and answers the exit
-/// status.
+/// under the policy for each, at most 16 at once. A connection that is accepted while 16 run is closed, and
+/// so is one that is accepted while threads of 48 connections run. `spawner` starts each session's threads,
+/// with clones of the clock and of the gate. Each status but 0 has a line, which goes to `err`. Once no more
+/// connections are accepted it stops listening and puts that line. Then it waits until all sessions have
+/// ended, and answers the exit status.
 ///
 /// | status | means |
 /// |---|---|
 /// | 0 | COUNT connections were accepted, and their sessions have ended |
 /// | 1 | the words aren't of this form |
 /// | 2 | the policy was read and is refused; the line says why and where |
-/// | 4, 6, 7 | the policy can't be read; no memory; the policy is larger than 1 MiB |
+/// | 4, 6, 7 | the policy can't be read; out of memory; the policy is larger than 1 MiB |
 /// | 9, 10 | it couldn't listen or accept; a thread wasn't started |
 pub fn serve<
     R: Host + Net<Listener = TcpListener, Stream = TcpStream>,

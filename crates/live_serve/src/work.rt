@@ -27,7 +27,7 @@ pub(crate) struct SliceReader<D: Dialer, C: Clock, G: Gate> {
     pub(crate) gate: G,
 }
 
-/// What a work does.
+/// What a thread does.
 #[derive(Drop)]
 pub(crate) enum Job<D: Dialer, C: Clock, G: Gate> {
     ReadSwitch(C, G),

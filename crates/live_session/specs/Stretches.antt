@@ -38,11 +38,11 @@ abbrev pub down_of : Side → Event
 down_of Switch = SwitchDown
 down_of (Slice slot) = SliceDown slot
 
--- the step of an event at a moment
+-- the step of an event at a timestamp
 abbrev pub at_moment : Event → ℕ → DeskOp
 at_moment event moment = Step (timed_at moment event)
 
--- the operations are the steps of these events in their order, each at the moment at its place
+-- the operations are the steps of these events in their order, each at the timestamp at its place
 abbrev pub AreSteps : List DeskOp → List Event → List ℕ → Type 0
 AreSteps ops events moments = (timed : List Timed) × (ops ≡ map Step timed) × (events ≡ map (λ t. t.event) timed) × (moments ≡ map (λ t. t.moment) timed)
 
@@ -194,7 +194,7 @@ EndsAs DeskEnded side given all events calls left = (events ≡ cut_off side giv
 EndsAs Spent side given all events calls left = ((events ≡ []) ⊎ (events ≡ cut_off side given)) × (left ≡ 0) × WentOnTo calls
 EndsAs Memory side given all events calls left = (events ≡ whole_stretch side given) × ButLast WentOnTo calls
 
--- one connection: the seat's own new calls, by what was taken from the source, in which order and at which moments
+-- one connection: the seat's own new calls, by what was taken from the source, in which order and at which timestamps
 pub record Stretch (side : Side) (a : Spot) (before : Option (List ℕ)) (end : ReaderEnd) (after : Option (List ℕ)) (b : Spot) : Type 0 where
   pub bytes : List ℕ
   pub given : List (List ℕ)

@@ -61,7 +61,7 @@ fn is_over(stepped: &Result<Result<Verdict, AllocError>, Spent>) -> bool {
     matches!(stepped, Ok(Ok(Verdict::Close | Verdict::Ended)))
 }
 
-/// One event, at the moment that the clock answers. Where the seat has no calls left the clock isn't asked.
+/// One event, at the timestamp that the clock answers. Where the seat has no calls left the clock isn't asked.
 fn ask<R: Wait, C: Clock>(
     rt: &R,
     desk: &TurnDesk<DeskObject>,
@@ -112,8 +112,8 @@ pub(crate) fn ask_alone<R: Wait, C: Clock>(
     asked
 }
 
-/// Whether the event is a message of a slice that may be sent on to the switch. Its head tells it, so that one of bad
-/// form is too.
+/// Whether the event is a message of a slice that may be sent on to the switch. The head of the message
+/// decides, so that one of bad form may be sent on too.
 #[tactic(auto, using(crate::proofs::Asking::last_type))]
 fn is_for_the_switch(event: &Event) -> bool
     ensures { (slot : ℕ) (message : List ℕ) → event.now ≡ SliceMsg slot message → IsTrue (is_question message) → IsTrue result }
@@ -306,7 +306,7 @@ fn begin<R: Host + Net<Listener = TcpListener, Stream = TcpStream>, S: Source, C
     read_all(rt, facts, seat, source, clock)
 }
 
-/// Whether the desk is told that a connection ended so.
+/// Whether it is reported to the desk that a connection ended so.
 fn closes(end: ReaderEnd) -> bool
     ensures { result ≡ has_down end }
 {

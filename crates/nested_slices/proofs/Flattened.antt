@@ -86,7 +86,7 @@ divisible outer slot inner given none = record {
   written = all_written inner.rules (early_None outer slot inner none).1;
 }
 
--- ---- what is told
+-- ---- what is answered
 
 pub told_early : (outer : PolicyView) (slot : ℕ) (inner : PolicyView) (fault : NestFault) → early_fault outer slot inner ≡ Some fault → flatten_of outer slot inner ≡ Err fault
 unfolding flatten_of
@@ -108,7 +108,7 @@ loaded_is ss rs p (Some fault) is loaded =
     let refused : ◌≡◌ {A = Result PolicyView PolicyFault} (Err fault) (Ok p) = rw (is, load_of) at loaded in
     absurd cc
 
--- where a policy is told there was no early fault, it is the flat one, and a policy
+-- where a policy is answered, there was no early fault, it is the flat one, and a policy
 pub record IsFlat (outer : PolicyView) (slot : ℕ) (inner : PolicyView) (p : PolicyView) : Type 0 where
   pub none_early : early_fault outer slot inner ≡ None
   pub is : p ≡ flat outer slot inner
@@ -218,7 +218,7 @@ late_few outer slot inner (Err fault) is normal (inr told) =
     let refused = told_Err (load_of f.slices f.rules) fault told in
     subst IsNestFault (sym refused.2) (flat_fault outer slot inner refused.0 is normal refused.1)
 
--- what `load` answers, told again
+-- what `load` answers, reported again
 pub told_again : (fault : PolicyFault) (l : Result PolicyView PolicyFault) → (fault ≡ OutOfMemory) ⊎ (l ≡ Err fault) → (told_fault fault ≡ Memory) ⊎ (told_flat l ≡ Err (told_fault fault))
 told_again OutOfMemory l either = inl refl
 told_again fault l (inl memory) = absurd cc

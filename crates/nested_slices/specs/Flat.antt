@@ -49,7 +49,7 @@ joined None pattern writer readers = None
 joined (Some switch) None writer readers = None
 joined (Some switch) (Some pattern) writer readers = Some (record { switch = switch; priority = 0; pattern = pattern; writer = writer; readers = readers })
 
--- what a rule that the holder writes and an inner one allow together: on the switch that either names, of the headers in both, the inner one's writer, and the readers of both; none where they name two switches or share no header
+-- what a rule that the holder writes and an inner one allow together: on the switch that either names, of the headers in both, the inner one's writer, and the readers of both. There is none where the two rules name two switches or share no header
 abbrev pub part : DivisionView → Rule → Rule → Option Rule
 part d r q = joined (both r.switch q.switch) (meet_of r.pattern q.pattern) (option_map (inner_slot d) q.writer) (outer_readers d r.readers + inner_readers d q.readers)
 

@@ -49,12 +49,12 @@ early_fault outer slot inner =
 
 -- ---- what comes of a division
 
--- a policy, or its fault told as that of the flat policy
+-- a policy, or its fault reported as that of the flat policy
 abbrev pub told_flat : Result PolicyView PolicyFault → Result PolicyView NestFault
 told_flat (Ok policy) = Ok policy
 told_flat (Err fault) = Err (Refused fault)
 
--- the same of what `load` answers, where memory is told for itself
+-- the same of what `load` answers, where out of memory is a fault of its own
 abbrev pub told_fault : PolicyFault → NestFault
 told_fault OutOfMemory = Memory
 told_fault fault = Refused fault

@@ -164,9 +164,10 @@ fn flattened(alloc: Global, outer: &Policy, slot: u8, inner: &Policy) -> Result<
     }
 }
 
-/// The policy that comes of the outer one where the holder of the slice at a slot divides it by the inner one: the
-/// outer slices without the holder, and then the inner ones; and the outer rules in rule order, where each rule that
-/// the holder writes is replaced by what it and the inner rules, in rule order, allow together. Or its first fault.
+/// The policy that comes of the outer one where the holder of the slice at a slot divides that slice by the
+/// inner one. Its slices are the outer slices without the holder, and then the inner ones. Its rules are the
+/// outer rules in rule order, where each rule that the holder writes is replaced by what that rule and the
+/// inner rules, in rule order, allow together. Or its first fault.
 pub fn flatten(alloc: Global, outer: &Policy, slot: u8, inner: &Policy) -> Result<Policy, NestFault>
     requires { slot < length outer.now.slices }
     ensures answer { GivesFlat result (flatten_of outer.now slot inner.now) }

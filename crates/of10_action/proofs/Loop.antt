@@ -36,7 +36,7 @@ head_is bytes head e =
     let first = or_parts (ltb (length bytes) 8) (ltb size 8) before.0 in
     subst (IsHead bytes) (ok_is (kind, size) head f.1) (record { kind = refl; size = refl; eight = ltb-false _ _ first.1; whole = ltb-false _ _ last.1; known = ltb-false _ _ d.0; of_kind = eqb-true size (size_of kind) f.0 })
 
--- an action that is read follows its head, and what is left stands behind the length that the head tells
+-- an action that is read follows its head, and what is left stands behind the length that the head says
 pub first_is : (bytes : List ℕ) (x : Action × List ℕ) → action_at bytes ≡ Ok x → (head : ℕ × ℕ) × IsHead bytes head × ((action_of head.0 bytes, drop head.1 bytes) ≡ x)
 unfolding action_at
 first_is bytes x e =

@@ -1,4 +1,4 @@
--- Messages that tell of an entry that a switch removed (OpenFlow 1.0.0, section 5.4.2).
+-- Messages that report an entry that a switch removed (OpenFlow 1.0.0, section 5.4.2).
 use Rattle.std.specs.Prelude.{ℕ, ◌==◌, ◌<◌, ◌^◌, if◌then◌else◌, List, ◌++◌, length, Result, Ok, Err}
 use Rattle.byteorder.specs.Endian.{big_bytes}
 use Rattle.of10_model.specs.Normal.{number_at, match_at, IsNormal}

@@ -51,7 +51,7 @@ pub record Cleans (m : FlowMod) : Type 0 where
 abbrev pub piece_entry : FlowEntry → Pattern → FlowEntry
 piece_entry e piece = record e { pattern = piece }
 
--- at a header, a table's entries are the pieces of another one's, up to order and repeats: each piece has the priority and the actions of its entry, an entry has the header where one of its pieces has it, and the pieces that have it are all-exact as their entry is
+-- at a header, a table's entries are the pieces of another one's, up to order and repeats. Each piece has the priority and the actions of its entry. An entry has the header where one of its pieces has it, and the pieces that have it are all-exact as their entry is
 pub record IsSplit (whole : List FlowEntry) (pieces : FlowEntry → List Pattern) (split : List FlowEntry) (h : Header) : Type 0 where
   pub entries : (x : FlowEntry) → Contains split x ↔ ((e : FlowEntry) × (piece : Pattern) × Contains whole e × Contains (pieces e) piece × (x ≡ piece_entry e piece))
   pub covered : (e : FlowEntry) → Contains whole e → Has e.pattern h ↔ ((piece : Pattern) × Contains (pieces e) piece × Has piece h)
@@ -75,7 +75,7 @@ pub record Puts (actions : List Action) (m : FlowMod) : Type 0 where
 abbrev pub TouchAlike : (Pattern → List Pattern) → List FlowEntry → FlowMod → List FlowMod → Type 0
 TouchAlike pieces whole m ms = (e : FlowEntry) (piece : Pattern) → Contains whole e → Contains (pieces e.pattern) piece → touches m e ≡ list_any (λ sent. touches sent (piece_entry e piece)) ms
 
--- what flow-mods do to the pieces of a table's entries where one changes the table: they are deletes as it is; or all put its actions, and each touches a piece where it touches an entry; or where it touches none each touches none and not what an earlier one adds, and together they add the pieces of its match
+-- what flow-mods do to the pieces of a table's entries where one flow-mod changes the table. If the one is a delete, they all are deletes. Otherwise all put the actions of the one. If the one touches an entry, each of them touches a piece. If the one touches none, each of them touches none, and not what an earlier one adds, and together they add the pieces of the one's match
 pub data FollowsByPieces (pieces : Pattern → List Pattern) (whole split : List FlowEntry) (m : FlowMod) (ms : List FlowMod) : Type 0 where
   Delete : Deletes m → All Deletes ms → FollowsByPieces pieces whole split m ms
   Change : Puts m.actions m → All (Puts m.actions) ms → list_any (touches m) whole ≡ true → All (λ sent. list_any (touches sent) split ≡ true) ms → FollowsByPieces pieces whole split m ms

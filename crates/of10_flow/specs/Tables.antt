@@ -1,5 +1,5 @@
 -- Flow tables, what a flow-mod makes of one, and which actions a packet meets in it (OpenFlow 1.0.0, sections 3.4 and 4.6). A table is a list of entries, each of them a match, a priority and actions.
--- This proxy's own rule is what the standard leaves open: that a changed entry keeps its place and a new one comes last, that a command above 4 changes nothing, and that the flag EMERG, cookies, counters and timeouts are disregarded. Nothing is said of switches that differ.
+-- What the standard leaves open is this proxy's own rule. A changed entry keeps its place and a new one comes last. A command above 4 changes nothing. The flag EMERG, cookies, counters and timeouts are disregarded. Nothing is said of switches that differ.
 use Rattle.std.specs.Prelude.{ℕ, ◌==◌, ◌&&◌, ◌||◌, ◌/◌, ◌%◌, leb, not, Bool, false, if◌then◌else◌, List, [], ◌∷◌, ◌++◌, filter, map}
 use Rattle.std.specs.List.{list_any, list_all}
 use Rattle.of10_model.specs.declared.pattern.Pattern.{Pattern}

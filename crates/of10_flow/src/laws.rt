@@ -15,8 +15,8 @@ ghost use Rattle.of10_flow.specs.PacketIns.{IsPacketIn, spell_packet_in, read_pa
 ghost use Rattle.of10_flow.specs.PacketOuts.{IsPacketOut, spell_packet_out, read_packet_out};
 
 /// Commands of a flow-mod have the numbers 0 to 4, its flags are the three low bits, and no buffer is the
-/// greatest number; 72 bytes stand before its actions, and these have at most 65,463 (OpenFlow 1.0.0,
-/// sections 5.1 and 5.3.3).
+/// greatest number. 72 bytes stand before its actions, and the actions have at most 65,463 bytes (OpenFlow
+/// 1.0.0, sections 5.1 and 5.3.3).
 pub fn commands_and_flags_are_numbered()
     ensures commands { ADD ∷ MODIFY ∷ MODIFY_STRICT ∷ DELETE ∷ DELETE_STRICT ∷ [] ≡ 0 ∷ 1 ∷ 2 ∷ 3 ∷ 4 ∷ [] }
     ensures flags { SEND_FLOW_REM ∷ CHECK_OVERLAP ∷ EMERG ∷ [] ≡ 1 ∷ 2 ∷ 4 ∷ [] }

@@ -122,11 +122,11 @@ impl Match {
         Match { pattern }
     }
 
-    /// The normal form of the match that these bytes spell (OpenFlow 1.0.0, section 5.2.3): a field
-    /// whose wildcard bit is set is free, and so is one that needs another field's value that isn't
-    /// given, as a transport port without TCP, UDP or ICMP. Where no wildcard bit is set such a field is
-    /// zero instead, so that the match stays all-exact (this proxy's own rule). Padding and wildcard
-    /// bits from 22 on are disregarded.
+    /// The normal form of the match that these bytes spell (OpenFlow 1.0.0, section 5.2.3). A field whose
+    /// wildcard bit is set is free. So is a field that needs another field's value that isn't given, as a
+    /// transport port without TCP, UDP or ICMP. Where no wildcard bit is set such a field is zero instead, so
+    /// that the match stays all-exact (this proxy's own rule). Padding and wildcard bits from 22 on are
+    /// disregarded.
     pub fn decode(bytes: &[u8; 40]) -> Match
         ensures { result ≡ Norm bytes.now }
     {

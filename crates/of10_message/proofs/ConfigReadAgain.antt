@@ -74,7 +74,7 @@ padding_read message question is =
     let body = length-drop 8 message in
     ap (λ (asked : QueuesQuestion). length asked.padding) told.1 ∙ omega (arith, whole, behind, body)
 
--- two bytes are spelled by the number that they tell
+-- two bytes are spelled by the number that they say
 two_again : (a b : ℕ) (rest : List ℕ) → a < 256 → b < 256 → (n : ℕ) → n ≡ a * 256 + b → big_bytes 2 n ++ rest ≡ a ∷ b ∷ rest
 two_again a b rest high low n is =
     let first : n / 256 % 256 ≡ a = omega (arith, is, high, low) in

@@ -13,7 +13,7 @@ use Rattle.of10_message.specs.declared.fault.Unread.TheVariants.{BadType}
 use Rattle.of10_message.specs.Heads.{is_kind}
 use Rattle.of10_message.specs.Forms.{sized, formed, read_as}
 
--- a message of version 1, by its type: what has no layout here is taken at any length, and of an echo the whole body (section 5.5); three types have no body (sections 5.3.1, 5.3.2, 5.3.7), and how the switch is to be set (5.3.2), packet-outs (5.3.6), flow-mods (5.3.3), statistics requests (5.3.5) and questions for queues (5.3.4) are read whole
+-- a message of version 1, by its type. What has no layout here is taken at any length, and of an echo the whole body (section 5.5). Three types have no body (sections 5.3.1, 5.3.2, 5.3.7). How the switch is to be set (5.3.2), packet-outs (5.3.6), flow-mods (5.3.3), statistics requests (5.3.5) and questions for queues (5.3.4) are read whole
 unfoldable pub read_typed : List ℕ → Result FromController Unread
 read_typed bytes =
     if is_kind ERROR bytes then Ok said.Error

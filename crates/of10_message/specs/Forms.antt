@@ -21,7 +21,7 @@ formed message (Err fault) = Err (BadForm fault)
 abbrev pub read_hello : {M : Type 0} → M → List ℕ → Result M Unread
 read_hello hello bytes = if version_of bytes == 0 then Err NoCommonVersion else Ok hello
 
--- what a message says, where one of version 1 that is no HELLO is read by its type, or the first thing that is wrong with it: a length that doesn't count its header, no version in common, another version, or what is wrong by its type
+-- what a message says, or the first thing that is wrong with it: a length that doesn't count its header, no version in common, another version, or what is wrong by its type. A message of version 1 that is no HELLO is read by its type
 abbrev pub read_as : {M : Type 0} → M → (List ℕ → Result M Unread) → List ℕ → Result M Unread
 read_as hello by_type bytes =
     if is_bad bytes then Err BadLength

@@ -1,6 +1,6 @@
-//! The messages of OpenFlow 1.0 read once: what a controller sends to its slice and what a switch sends, one value
-//! for each type of message, or the first thing that is wrong with its bytes; the configuration of a switch and of
-//! its queues, read and spelled; and the errors of a switch.
+//! The messages of OpenFlow 1.0 read once: what a controller sends to its slice and what a switch sends. A
+//! reading gives one value for each type of message, or the first thing that is wrong with its bytes. Also
+//! the configuration of a switch and of its queues, read and spelled, and the errors of a switch.
 #![tactic(auto)]
 
 mod bodiless;

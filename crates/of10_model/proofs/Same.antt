@@ -1,4 +1,4 @@
--- The test of two matches tells whether they are one.
+-- The test of two matches says whether they are one.
 use Rattle.std.proofs.Common.{◌≡◌, ◌↔◌, IsTrue, ℕ, true, ◌==◌, Option, Some, None, refl, sym, subst, eqb-true, eq-eqb}
 use Rattle.std.proofs.lemmas.Bool.{true≢false, and_parts, and_from}
 use Rattle.of10_model.specs.declared.pattern.Prefix.{Prefix}

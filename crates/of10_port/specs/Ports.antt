@@ -13,7 +13,7 @@ IsPort raw = length raw ≡ 48
 abbrev pub port_number : List ℕ → ℕ
 port_number raw = number_at raw 0 2
 
--- a port of which nothing but its number is told
+-- a port of which nothing but its number is said
 abbrev pub bare_port : ℕ → List ℕ
 bare_port number = big_bytes 2 number ++ replicate 46 0
 

@@ -29,7 +29,7 @@ long_some : (o : Option ℕ) (n : ℕ) → IsLong o → o ≡ Some n → 24 ≤ 
 long_some None n h e = absurd cc
 long_some (Some m) n h e = let same : m ≡ n = cc in omega (arith, h, same)
 
--- the length is told by the first two bytes
+-- the first two bytes say the length
 same_length : (kind n : ℕ) (bytes : List ℕ) → 2 ≤ n → length_of kind (take n bytes) ≡ length_of kind bytes
 unfolding length_of
 same_length kind n bytes h =

@@ -62,6 +62,6 @@ flow_of entry = (match_at entry 4, number_at entry 72 8, number_at entry 80 8)
 abbrev pub IsPortEntry : List ℕ → Type 0
 IsPortEntry entry = IsEntry PORT entry ⊎ IsEntry QUEUE entry
 
--- the port of which such an entry tells (section 5.3.5)
+-- the port that such an entry is about (section 5.3.5)
 abbrev pub entry_port : List ℕ → ℕ
 entry_port entry = number_at entry 0 2

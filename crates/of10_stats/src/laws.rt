@@ -15,9 +15,9 @@ pub fn request_is_read_again()
     ensures again { (r : StatsRequest) (xid : ℕ) → IsRequest r → read_request (spell_request r xid) ≡ Ok r }
 {}
 
-/// The padding of a STATS_REQUEST says nothing: requests of types 1 and 2 alike but for byte 53, of type 4 alike
-/// but for bytes 14 to 19, and of type 5 alike but for bytes 14 and 15 are read alike (OpenFlow 1.0.0, section
-/// 5.3.5).
+/// The padding of a STATS_REQUEST says nothing (OpenFlow 1.0.0, section 5.3.5). Two requests are read alike
+/// where they differ in these bytes alone: byte 53 of types 1 and 2, bytes 14 to 19 of type 4, and bytes 14
+/// and 15 of type 5.
 pub fn request_padding_says_nothing()
     ensures flow { (a b : List ℕ) → number_at a 8 2 ≡ 1 → AlikeBut 53 54 a b → read_request a ≡ read_request b }
     ensures aggregate { (a b : List ℕ) → number_at a 8 2 ≡ 2 → AlikeBut 53 54 a b → read_request a ≡ read_request b }

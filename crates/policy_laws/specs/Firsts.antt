@@ -53,7 +53,7 @@ NamesNoSliceAt Rule index members fault = (fault ≡ UnknownSlice index) × (IsK
 NamesNoSliceAt Port index members fault = (fault ≡ UnknownPortSlice index) × IsKey members (codes "slice")
 NamesNoSliceAt kind index _ fault = ⊥
 
--- a fault of this table: at a key that it needs and lacks, a known one whose value is bad, or the least unknown one; or, of a rule or a port table, by its number, with a field or names that are there
+-- a fault of this table: at a key that it needs and lacks, a known one whose value is bad, or the least unknown one. A fault of a rule or a port table may be by its number instead, with a field or names that are there
 abbrev pub StandsIn : Keys → ℕ → Members → ReadFault → Type 0
 StandsIn kind index _ NotToml = ⊥
 StandsIn kind index members (Missing at) = (at.part ≡ part_of kind) × (at.index ≡ index) × (is_needed (part_of kind) at.key ≡ true) × (IsKey members at.key → ⊥)

@@ -53,19 +53,20 @@ pub fn named_key_is_the_least_unknown()
     ensures unknown { (kind : Keys) (this : SectionView) (key : List ℕ) → (known_keys kind this ≡ Err (UnknownKey (key_place this key))) ↔ IsLeastUnknown kind this.members key }
 {}
 
-/// A fault that the table of a slice, a rule or a port has names this table, with its index, and a key: one
-/// that such a table needs and this one lacks, one that it may have and whose value here is of another form
-/// than such a table has there, or the least that it has and may not have. Or, of a rule, it has the rule's
-/// number: with a field whose key is in the table, or for a slice where the table has `write` or `read`; or,
-/// of a port table, its number, for a slice where the table has `slice`.
+/// A fault that the table of a slice, a rule or a port has names this table, with its index, and a key. The
+/// key is one that such a table needs and this one lacks, or the least that this one has and may not have. Or
+/// the key is one that such a table may have and whose value here is of another form than such a table has
+/// there. A fault of a rule may have the rule's number instead: with a field whose key is in the table, or
+/// for a slice where the table has `write` or `read`. A fault of a port table may have the number of the port
+/// table instead, for a slice where the table has `slice`.
 pub fn fault_stands_in_its_table()
     ensures slice { (index : ℕ) (members : Members) (fault : ReadFault) → slice_of index (table members) ≡ Err fault → StandsIn keys.Slice index members fault }
     ensures rule { (slices : List Slice) (index : ℕ) (members : Members) (fault : ReadFault) → rule_of slices index (table members) ≡ Err fault → StandsIn keys.Rule index members fault }
     ensures port { (slices : List Slice) (index : ℕ) (members : Members) (fault : ReadFault) → swap_of slices index (table members) ≡ Err fault → StandsIn keys.Port index members fault }
 {}
 
-/// The readers of a rule are the slots that its names say, below 32: of the bits of a list of slots bit k
-/// is set exactly where k is among them, and no bit from 32 on; of a rule that is read bit k is set exactly
+/// The readers of a rule are the slots that its names say, below 32. Of the bits of a list of slots bit k is
+/// set exactly where k is among the slots, and no bit from 32 on. Of a rule that is read bit k is set exactly
 /// where some name under `read` is that of the slice at slot k.
 pub fn readers_are_the_named_slots()
     ensures bits { (slots : List ℕ) (k : ℕ) → k < 32 → bit (bits_below 32 slots) k ≡ list_any (nat_eq k) slots }
@@ -74,8 +75,8 @@ pub fn readers_are_the_named_slots()
 {}
 
 /// The slots of names are those of the slices with these names, in order. A rule is refused for a name that
-/// no slice has exactly where there is one under its `write` or `read`, and for an improper `read` exactly
-/// where all its names are slices' and two under `read` are of one slot.
+/// no slice has exactly where there is one under its `write` or `read`. It is refused for an improper `read`
+/// exactly where all its names are slices' and two under `read` are of one slot.
 pub fn names_are_of_slices()
     ensures slots { (slices : List Slice) (index : ℕ) (names : List (List ℕ)) (slots : List ℕ) → (slots_of slices index names ≡ Ok slots) ↔ (map (slot_named slices) names ≡ map Some slots) }
     ensures missing { (slices : List Slice) (index : ℕ) (said : RuleText) → (rule_from slices index said ≡ Err (Refused (UnknownSlice index))) ↔ NamesNoSlice slices (names_of_rule said) }

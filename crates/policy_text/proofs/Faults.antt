@@ -41,7 +41,7 @@ bind_has_after P (Err fault) f own more = own
 abbrev pub OfValue : (ReadFault → Type 0) → SectionView → List ℕ → (Data → Bool) → Type 0
 OfValue P this key form = (d : Data) → get_member key this.members ≡ Some d → form d ≡ false → P (BadValue (key_place this key))
 
--- a fault for want of a key is of this kind
+-- a fault for a missing key is of this kind
 abbrev pub OfMissing : (ReadFault → Type 0) → SectionView → List ℕ → Type 0
 OfMissing P this key = (IsKey this.members key → ⊥) → P (Missing (key_place this key))
 

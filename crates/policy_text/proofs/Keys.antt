@@ -1,4 +1,4 @@
--- Which keys a table has, told by what its reading gives.
+-- Which keys a table has, seen from what its reading gives.
 use Rattle.std.proofs.Common.{◌≡◌, ◌⊎◌, inl, inr, ℕ, Bool, true, false, ◌&&◌, not, cond, true≢false, List, [], ◌∷◌, Option, Some, None, IfSome, is_some, Ok, Ordering, Less, Equal, Greater, nat_cmp, codes, unwrap_or, refl, sym, ap, ◌∙◌, subst}
 use Rattle.std.specs.Cmp.Lexicographic.{slice_cmp}
 use Rattle.std.specs.Ordering.{is_eq}

@@ -76,7 +76,7 @@ different_not xs i lt before old =
     let here : are_different (take (i + 1) xs) ≡ false = rw (take_more xs i 0 lt, different_push (get_or xs i 0) (take i xs), before, old) refl in
     rw (take-append-drop (i + 1) xs) at (different_front (take (i + 1) xs) (drop (i + 1) xs) here)
 
--- a set of the slots so far tells which it is
+-- a set of the slots so far says which it is
 pub added_more : (xs : List ℕ) (i : ℕ) (added has : Bool) → i < length xs → are_different (take i xs) ≡ true → has ≡ list_any (nat_eq (get_or xs i 0)) (take i xs) → added ≡ not has → added ≡ true
     → are_different (take (i + 1) xs) ≡ true
 added_more xs i added true lt before h e new = absurd (true≢false (sym new ∙ e))

@@ -1,4 +1,4 @@
--- A message that tells a switch's ports: for a slice each port has the number that is shown, and they stand in its order.
+-- A message that lists a switch's ports: for a slice each port has the number that is shown, and they stand in its order.
 use Rattle.std.proofs.Common.{◌≡◌, ℕ, zero, suc, ◌*◌, ◌/◌, ◌%◌, ◌-◌, ◌==◌, not, nat_lt, true, false, if◌then◌else◌, List, [], ◌∷◌, ◌++◌, map, length, take, drop, refl, sym, ap, ap₂, ◌∙◌, arith}
 use Rattle.std.specs.List.{All}
 use Rattle.std.specs.Simd.{first_chunks}

@@ -30,7 +30,7 @@ places_by kind f =
     else if kind == FEATURES_REPLY && has_whole_ports f then at.Ports
     else at.Nowhere
 
--- messages of these types tell of ports
+-- messages of these types name ports
 abbrev pub tells_ports : ℕ → Bool
 tells_ports kind = kind == PACKET_IN || kind == FLOW_REMOVED || kind == PORT_STATUS || kind == QUEUE_GET_CONFIG_REPLY || kind == STATS_REPLY || kind == FEATURES_REPLY
 
@@ -111,11 +111,11 @@ descent port = 65535 - port_number port
 abbrev pub in_number_order : List (List ℕ) → List (List ℕ)
 in_number_order ports = ranked descent ports
 
--- a message that tells a switch's ports, with the ports in this order
+-- a message that lists a switch's ports, with the ports in this order
 abbrev pub ports_sorted : List ℕ → List ℕ
 ports_sorted f = take 32 f ++ port_bytes (in_number_order (ports_in (drop 32 f)))
 
--- a message that tells a switch's ports has them sorted; any other stays
+-- a message that lists a switch's ports has them sorted; any other stays
 abbrev pub sorted_at : Places → List ℕ → List ℕ
 sorted_at at.Ports f = ports_sorted f
 sorted_at place f = f

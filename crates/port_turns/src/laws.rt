@@ -75,9 +75,10 @@ pub fn ports_are_shown_in_order()
     ensures { (f : List ℕ) → version_of f ≡ 1 → is_bad f ≡ false → message_kind f ≡ FEATURES_REPLY → has_whole_ports f ≡ true → (pair : ℕ × ℕ) (others : Pairs) → turn_out (pair ∷ others) f ≡ take 32 f ++ port_bytes (in_number_order (map (turn_port (pair ∷ others) 0) (ports_in (drop 32 f)))) }
 {}
 
-/// Rows of bytes, in which 9 is shown for 2. Of a removed entry an in_port that is free stays; of a flow entry whose
-/// actions aren't read the in_port is exchanged and they stay; an entry of 87 bytes stays, with all behind it; the
-/// numbers for no port, for all and of the switch's own port stay; and a switch's ports are sorted by what is shown.
+/// Rows of bytes, in which 9 is shown for 2. Of a removed entry an in_port that is free stays. Of a flow
+/// entry whose actions aren't read the in_port is exchanged and the actions stay. An entry of 87 bytes stays,
+/// with all behind it. The numbers for no port, for all and of the switch's own port stay. A switch's ports
+/// are sorted by what is shown.
 pub fn sent_ports_alone_are_exchanged()
     ensures packet { turned_numbers nine_for_two (in_bytes 2) ≡ in_bytes 9 }
     ensures removed { turned_numbers nine_for_two (removed_bytes 0x3820fe 2) ≡ removed_bytes 0x3820fe 9 }

@@ -69,7 +69,7 @@ pub changed_plainly-other : (status : PortStatus) (known : List (List ℕ)) → 
 unfolding changed_plainly
 changed_plainly-other status known isnt = rw (ne_eqb status.reason 1 isnt) refl
 
--- what holds whether the port is deleted or told of
+-- what holds whether the port is deleted or reported
 pub by_reason : (P : List (List ℕ) → Type 0) (status : PortStatus) (known : List (List ℕ)) → (status.reason ≡ 1 → P (without_port (port_number status.port) known)) → (status.reason ≢ 1 → P (with_port status.port known))
     → P (changed_plainly status known)
 by_reason P status known deleted told = elim (cases_eq status.reason 1) [

@@ -1,4 +1,4 @@
--- A port is known as it was told last.
+-- A port is known as it was reported last.
 use Rattle.std.proofs.Common.{◌≡◌, ◌≢◌, ℕ, Bool, true, false, List, [], ◌∷◌, refl, sym, ap, ◌∙◌, inl, inr}
 use Rattle.std.specs.Prelude.{find, reverse, fold, Option, Some, None, if◌then◌else◌}
 use Rattle.std.specs.Option.{option_or, option_map_or}
@@ -112,7 +112,7 @@ kept_statuses-not : (features : Features) (status : PortStatus) (earlier : List 
 unfolding kept_statuses
 kept_statuses-not features status earlier isnt = rw (is_kept-not features status earlier (kept_of status (known_of features earlier)) refl isnt) refl
 
--- what the statuses tell of a number
+-- what the statuses say of a number
 abbrev told_in : ℕ → Features → List PortStatus → Option (List ℕ)
 told_in number features kept = option_map_or port_it_tells (find (λ status. is_of_number number status.port) kept) (told_first number features.ports)
 

@@ -41,7 +41,7 @@ with_port port known = ports_below (port_number port) known ++ port ∷ ports_ab
 unfoldable pub without_port : ℕ → List (List ℕ) → List (List ℕ)
 without_port number known = filter (λ port. not (is_of_number number port)) known
 
--- a port that is told; one whose number can't be known is passed over
+-- a port that is reported; one whose number can't be known is passed over
 abbrev pub with_told : List (List ℕ) → List ℕ → List (List ℕ)
 with_told known port = if is_in_port (port_number port) then with_port port known else known
 

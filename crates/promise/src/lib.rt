@@ -40,21 +40,22 @@ pub fn erasure()
     ensures { (policy : PolicyView) (slot : ℕ) (h : List Timed) → IsErasable policy slot h }
 {}
 
-/// What the lines of a report tell a slice, from each up of a switch to its next one or to the end, is what a
-/// proxy sends that serves the slice alone on its view of the switch. `slice_is_told_as_alone` of `desk_words` says
-/// so of the last up, and is all that this takes beside `earlier_records_have_the_first_events`.
+/// What the lines of a report say a slice is sent, from each up of a switch to the next one or the end, is
+/// what a proxy sends that serves the slice alone on its view of the switch. `slice_is_told_as_alone` of
+/// `desk_words` says so of the last up, and is all that this takes beside
+/// `earlier_records_have_the_first_events`.
 pub fn slice_is_told_as_alone_at_each_up()
     ensures { (policy : PolicyView) (slot switch : ℕ) (earlier later : List Told) → IsToldAsAloneAtEachUp policy slot switch earlier later }
 {}
 
 // What is sent to the switch for a slice stays in what is its own.
 
-/// Whatever a message of a slice has sent to the switch is a flow-mod, and the slice writes each header of its
-/// match; or it is a packet-out of a packet that the slice writes, or of a probe with the slice's mark; or it
-/// asks the switch for a reply. The flow-mod's match is normal, and the fields of both lie in their ranges, so that
-/// the message is the bytes of no other (`messages_tell_their_fields` of `flow_facts`). Here and in the next four
-/// laws the messages are of bytes and the rules' matches are normal, as each `u8` and each `Match` is. A law of
-/// `lane_laws`.
+/// Whatever a message of a slice has sent to the switch is a flow-mod of headers that the slice writes, a
+/// packet-out of a packet that the slice writes or of a probe with the slice's mark, or a question. The slice
+/// writes each header of the flow-mod's match. A question asks the switch for a reply. The flow-mod's match
+/// is normal, and the fields of both lie in their ranges, so that the message is the bytes of no other
+/// (`messages_tell_their_fields` of `flow_facts`). Here and in the next four laws the messages are of bytes
+/// and the rules' matches are normal, as each `u8` and each `Match` is. A law of `lane_laws`.
 pub fn messages_lie_in_the_flowspace()
     ensures { (policy : PolicyView) → IsPolicy policy.slices policy.rules → AreNormal policy.rules → (h : List Timed) (timed : Timed) (slot : ℕ) (message : List ℕ) → All (λ t. IsOfBytes t.event) (timed ∷ h)
         → timed.event ≡ SliceMsg slot message → All (IsSentThat (LiesInFlowspace (rules_in policy h) slot) (SendsOwnPacket (IsBufferHeader h) (rules_in policy h) slot)) (lane_by policy h timed) }
@@ -80,9 +81,9 @@ pub fn buffers_are_the_slices_own()
         → timed.event ≡ SliceMsg slot message → All (IsSentThat (CarriesOwnBuffer policy slot h) (SendsOwnBuffer policy slot h)) (lane_by policy h timed) }
 {}
 
-/// A switch reads whatever such a message has sent as a flow-mod or a packet-out of which the first three of these
-/// hold, and whose actions send only what the slice writes, or as a question that the slice may ask. A law of
-/// `lane_laws`.
+/// A switch reads whatever such a message has sent as a flow-mod or a packet-out that keeps to what the slice
+/// may send, or as a question that the slice may ask. Of the flow-mod or packet-out the first three of these
+/// hold, and its actions send only what the slice writes. A law of `lane_laws`.
 pub fn switches_read_such_messages()
     ensures { (policy : PolicyView) → IsPolicy policy.slices policy.rules → AreNormal policy.rules → (h : List Timed) (timed : Timed) (slot : ℕ) (message : List ℕ) → All (λ t. IsOfBytes t.event) (timed ∷ h)
         → timed.event ≡ SliceMsg slot message → All (IsReadThat (StaysWithin (rules_in policy h) slot) (SendsWithin (IsBufferHeader h) (rules_in policy h) slot) (rules_in policy h) slot) (lane_by policy h timed) }

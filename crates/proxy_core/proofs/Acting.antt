@@ -57,7 +57,7 @@ body_after p switch sides qs ql timed old new b same phase lane opens = record {
 
 -- ---- phases
 
--- a session of a switch that hasn't ended is one of a switch that has told what it is
+-- a session of a switch that hasn't ended is one of a switch that has said what it is
 opened_in : (phase : Phase) (told : Option Features) (features : Features) → (is_before phase ≡ true → told ≡ None) → told ≡ Some features → is_ended phase ≡ false → phase ≡ Opened
 opened_in Fresh told features before some on = absurd (none-some features (sym (before refl) ∙ some))
 opened_in Begun told features before some on = absurd (none-some features (sym (before refl) ∙ some))

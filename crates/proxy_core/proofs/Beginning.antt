@@ -55,7 +55,7 @@ pub other_fault : (fault : Unread) → (fault ≡ BadLength → ⊥) → has_bad
 other_fault BadLength other = absurd (other refl)
 other_fault fault other = refl
 
--- only a FEATURES_REPLY tells of the switch
+-- only a FEATURES_REPLY describes the switch
 pub other_said : (said : SwitchMessageView) → ((told : FeaturesView) → said ≡ views.FeaturesReply told → ⊥) → features_said (Ok (said_by said)) ≡ None
 other_said (views.FeaturesReply told) other = absurd (other told refl)
 other_said said other = refl

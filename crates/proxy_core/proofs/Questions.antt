@@ -1,4 +1,4 @@
--- What a desk tells without a change of it.
+-- What a desk says without a change of it.
 use Rattle.std.proofs.Common.{◌≡◌, ℕ, ◌==◌, ◌&&◌, ltb, not, Bool, true, false, List, length, refl, ap, ap₂, subst, sym, ◌∙◌, Option, Some, None, option_map, slice_get, arith}
 use Rattle.std.proofs.lemmas.Bool.{ltb-false, lt-ltb}
 use Rattle.std.proofs.lemmas.Option.{slice_get_past, slice_get_within}

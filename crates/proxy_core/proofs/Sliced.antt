@@ -127,7 +127,7 @@ Follows slot event moment Becomes =
     → SlotStands p slot switch (sides slot) (qs slot) a b → Becomes a b x y
     → SlotStands p slot switch (sides_after p switch sides (record { event = event; moment = moment }) slot) (queues_after p switch sides qs (record { event = event; moment = moment }) slot) x y
 
--- the slice's connection came or went
+-- the slice's connection began or ended
 moved : (old new : Desk) (a b : Session) (slot moment : ℕ) (event : Event) (Becomes : SliceState → OutboxState → SliceState → OutboxState → Type 0) (there_ : Bool) → StaysSame event
     → old.session ≡ Some a → new.policy ≡ old.policy → new.phase ≡ old.phase → new.lane ≡ old.lane → new.session ≡ Some b → there_ ≡ has_side_at a slot → AtSlot slot Becomes a b
     → ((f : ℕ → List (List ℕ)) → lane_in f Opened event ≡ [])
@@ -164,7 +164,7 @@ went old new a b slot moment there_ was policy phase lane now is at =
 
 -- ---- a message of it, where it is up
 
--- what the slice is told of its switch is what it saw
+-- what the slice is sent of its switch is what it saw
 pub sees : (p : PolicyView) (switch : KnownSwitch) (sides : ℕ → SliceSide) (qs : ℕ → Queue) (a : Session) (slot : ℕ) → Coherent p switch sides → SessionStands p switch sides qs a → is_slot p slot ≡ true → is_up (sides slot).sight.view ≡ true
     → Sees (settings_at p slot switch.features) (sides slot).sight.view a.policy a.ports a.features slot
 sees p switch sides qs a slot fit s here up =

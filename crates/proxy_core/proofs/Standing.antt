@@ -82,7 +82,7 @@ items_opened p slot switch side timed opened =
 told_stays : (phase : Phase) (told : Option Features) (features : Features) (event : Event) → told ≡ Some features → opening_after phase told event ≡ told
 told_stays phase told features event is = rw is refl
 
--- what became of a session, where the switch told what it told before
+-- what became of a session, where the switch has said of itself what it said before
 pub session_becomes : (p : PolicyView) (switch later : KnownSwitch) (sides sides_then : ℕ → SliceSide) (qs qs_then : ℕ → Queue) (old new : Session)
     → SessionStands p switch sides qs old → later.features ≡ switch.features
     → new.policy ≡ old.policy → new.features ≡ old.features → new.ports ≡ later.known

@@ -42,7 +42,7 @@ use Rattle.proxy_core.proofs.Handed.{slot_sent}
 use Rattle.proxy_core.proofs.Acting.{body_after, still_none, session_ends, lane_is}
 use Rattle.proxy_core.proofs.Beginning.{bad_features, bad_echo, good_said, told_good, session_begins}
 
--- ---- a message of a switch that hasn't told what it is
+-- ---- a message of a switch that hasn't said what it is
 
 begun_bad : (message : List ℕ) → ends_switch message ≡ true → phase_after Begun (SwitchMsg message) ≡ Gone
 begun_bad message bad = ap (λ (b : Bool). if b then Gone else elim (features_told message) [ None ↦ Begun | Some features ↦ Opened ]) bad
@@ -140,7 +140,7 @@ opened old new moment message features session policy phase more now tells begin
     (session_begins p switch sides qs moment message features session fit (subst (λ (o : Option Session). Opens p switch sides qs o) empty body.opens) begun tells
     (subst (λ (v : PolicyView). Begins v features session) body.same_policy begins)))
 
--- ---- a message of a switch that has told what it is
+-- ---- a message of a switch that has said what it is
 
 -- a message of a bad length ends the session
 opened_bad : (message : List ℕ) → ends_switch message ≡ true → phase_after Opened (SwitchMsg message) ≡ Gone

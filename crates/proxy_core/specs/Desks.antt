@@ -33,7 +33,7 @@ pub record SlotStands (policy : PolicyView) (slot : ℕ) (switch : KnownSwitch) 
   pub state_stands : SliceStands (settings_at policy slot switch.features) side.sight state
   pub queue_stands : QueueStands slice_limit q queue
 
--- the switch told these features first, its policy and its ports are so known, and each slot stands
+-- the switch said these features first, its policy and its ports are so known, and each slot stands
 pub record SessionStands (policy : PolicyView) (switch : KnownSwitch) (sides : ℕ → SliceSide) (queues : ℕ → Queue) (session : Session) : Type 0 where
   pub told : switch.features ≡ Some session.features
   pub slices : session.policy.slices ≡ policy.slices
@@ -45,7 +45,7 @@ pub record SessionStands (policy : PolicyView) (switch : KnownSwitch) (sides : �
   pub each : (slot : ℕ) (state : SliceState) (queue : OutboxState) → slice_get session.states.items slot ≡ Some state → slice_get session.queues.items slot ≡ Some queue
       → SlotStands policy slot switch (sides slot) (queues slot) state queue
 
--- there is no session before the switch has told what it is, and nothing waits for a slice
+-- there is no session before the switch has said what it is, and nothing waits for a slice
 abbrev pub Opens : PolicyView → KnownSwitch → (ℕ → SliceSide) → (ℕ → Queue) → Option Session → Type 0
 Opens policy switch sides queues None = (switch.features ≡ None) × ((slot : ℕ) → queues slot ≡ no_messages)
 Opens policy switch sides queues (Some session) = SessionStands policy switch sides queues session
@@ -135,7 +135,7 @@ PassesOn moment message go old new =
     → Coherent policy switch sides → Body policy switch sides queues lane_queue old → switch.phase ≡ Opened
     → PassedOn policy switch sides queues (told_at moment message) message go old new
 
--- the switch has connected and not told what it is, and the policy has a slice at the slot
+-- the switch has connected and not said what it is, and the policy has a slice at the slot
 abbrev pub is_begun : Phase → Bool
 is_begun Begun = true
 is_begun phase = false
@@ -161,7 +161,7 @@ abbrev pub TakesNext : Desk → Dest → Option (List ℕ) → Desk → Type 0
 TakesNext old dest next new =
     (policy : PolicyView) (switch : KnownSwitch) (sides : ℕ → SliceSide) (queues : ℕ → Queue) (lane_queue : Queue) → Body policy switch sides queues lane_queue old → TookNext policy switch sides queues lane_queue dest next new
 
--- what is said of a slice before the switch has told what it is
+-- what is said of a slice before the switch has said what it is
 abbrev pub silence_before : PolicyView → ℕ → Taken
 silence_before policy slot = if is_slot policy slot then NotOpen else takens.Ended
 
@@ -234,7 +234,7 @@ TellsLane desk bytes = (policy : PolicyView) (operations : List Operation) → D
 abbrev pub TellsEnd : Desk → Bool → Type 0
 TellsEnd desk ended = (policy : PolicyView) (operations : List Operation) → DeskStands policy operations desk → ended ≡ is_ended (phase_of (events_of operations))
 
--- whether the switch is connected and has told what it is, likewise
+-- whether the switch is connected and has said what it is, likewise
 abbrev pub TellsOpening : Desk → Bool → Type 0
 TellsOpening desk open_ = (policy : PolicyView) (operations : List Operation) → DeskStands policy operations desk → open_ ≡ is_open (phase_of (events_of operations))
 
@@ -242,7 +242,7 @@ TellsOpening desk open_ = (policy : PolicyView) (operations : List Operation) �
 abbrev pub TellsUp : Desk → ℕ → Bool → Type 0
 TellsUp desk slot up = (policy : PolicyView) (operations : List Operation) → DeskStands policy operations desk → up ≡ is_slice_up policy slot (events_of operations)
 
--- what is kept of the slices after a history: none before the switch has told what it is, else for each slice of the policy a state that belongs to what the slice sees
+-- what is kept of the slices after a history: none before the switch has said what it is, else for each slice of the policy a state that belongs to what the slice sees
 abbrev pub AreStatesAfter : PolicyView → List Timed → Option (List SliceState) → Type 0
 AreStatesAfter policy h None = opening_of h ≡ None
 AreStatesAfter policy h (Some states) =
@@ -253,7 +253,7 @@ AreStatesAfter policy h (Some states) =
 abbrev pub TellsStates : Desk → Option (List SliceState) → Type 0
 TellsStates desk states = (policy : PolicyView) (operations : List Operation) → DeskStands policy operations desk → AreStatesAfter policy (events_of operations) states
 
--- the datapath id that the switch told, likewise
+-- the datapath id that the switch said, likewise
 abbrev pub TellsDatapath : Desk → Option ℕ → Type 0
 TellsDatapath desk datapath =
     (policy : PolicyView) (operations : List Operation) → DeskStands policy operations desk → datapath ≡ option_map (λ (features : Features). features.datapath) (opening_of (events_of operations))

@@ -68,7 +68,7 @@ CarriedOut policy switch sides queues moment message true old lane new new_lane 
     × HasMore (echo_for message) lane new_lane
 CarriedOut policy switch sides queues moment message false old lane new new_lane = (ends_switch message ≡ true) × SessionStands policy switch sides queues new × (new_lane ≡ lane)
 
--- what a session that has told what it is makes of a message of the switch
+-- what a session that has said what it is makes of a message of the switch
 abbrev pub Carries : ℕ → List ℕ → Bool → Session → OutboxState → Session → OutboxState → Type 0
 Carries moment message on old lane new new_lane =
     (policy : PolicyView) (switch : KnownSwitch) (sides : ℕ → SliceSide) (queues : ℕ → Queue) → switch.phase ≡ Opened → AllNumbered policy switch sides → SessionStands policy switch sides queues old

@@ -7,8 +7,9 @@ use outbox::Outbox;
 use port_view::PortView;
 use switch_side::Spare;
 
-/// What there is once the switch has told what it is: its part of the policy with the index of its rules, what
-/// it told of itself first, its known ports, and for each slice of the policy a state and the messages that wait for its controller.
+/// What there is once the switch has said what it is: its part of the policy with the index of its rules, what
+/// it said of itself first, and its known ports. For each slice of the policy there are a state and the
+/// messages that wait for its controller.
 #[derive(Drop)]
 pub(crate) struct Session {
     pub(crate) policy: IndexedPolicy,

@@ -81,7 +81,7 @@ impl Desk {
         self.lane.clear();
     }
 
-    /// The switch has told what it is: it is prepared.
+    /// The switch has said what it is: it is prepared.
     fn open(&mut self, alloc: Global, told: &FeaturesView<'_>) -> Result<bool, AllocError>
         requires { IsSaid (FeaturesReply (features_of told.now)) }
         ensures ok { IfOk result (λ go. (moment : ℕ) (message : List ℕ) → read_switch message ≡ Ok (FeaturesReply (features_of told.now)) → ActsIn Begun self.old (record { event = SwitchMsg message; moment = moment }) go self.new) }
@@ -98,7 +98,7 @@ impl Desk {
         Ok(true)
     }
 
-    /// A message that doesn't tell what the switch is, with what answers it.
+    /// A message that doesn't say what the switch is, with what answers it.
     fn answer(&mut self, messages: Vec<Frame>) -> Result<bool, AllocError>
         ensures ok { IfOk result (λ go. (moment : ℕ) (message : List ℕ) (said : Result SwitchMessage Unread) → read_switch message ≡ said → has_bad_length said ≡ false → features_said said ≡ None → echo_said (xid_of message) said ≡ messages.items → ActsIn Begun self.old (record { event = SwitchMsg message; moment = moment }) go self.new) }
         ensures err { OnErr result (Stays self.old self.new) }
@@ -109,7 +109,7 @@ impl Desk {
         Ok(true)
     }
 
-    /// A message under a transaction id of a switch that hasn't told what it is.
+    /// A message under a transaction id of a switch that hasn't said what it is.
     fn hear_said(
         &mut self,
         alloc: Global,
@@ -130,8 +130,8 @@ impl Desk {
         }
     }
 
-    /// A message that can't be read, of a switch that hasn't told what it is: one whose length doesn't count its
-    /// header ends the connection.
+    /// A message that can't be read, of a switch that hasn't said what it is. One whose length doesn't count
+    /// its header ends the connection.
     fn hear_unread(&mut self, alloc: Global, fault: Unread) -> Result<bool, AllocError>
         ensures ok { IfOk result (λ go. (moment : ℕ) (message : List ℕ) → read_switch message ≡ Err fault → ActsIn Begun self.old (record { event = SwitchMsg message; moment = moment }) go self.new) }
         ensures err { OnErr result (Stays self.old self.new) }
@@ -146,7 +146,7 @@ impl Desk {
         }
     }
 
-    /// A message of a switch that hasn't told what it is, which is read once.
+    /// A message of a switch that hasn't said what it is, which is read once.
     #[inline(never)]
     fn hear_first(&mut self, alloc: Global, frame: &Frame) -> Result<bool, AllocError>
         ensures ok { IfOk result (λ go. (moment : ℕ) → ActsIn Begun self.old (record { event = SwitchMsg frame.now; moment = moment }) go self.new) }
@@ -172,7 +172,7 @@ impl Desk {
         }
     }
 
-    /// A message of a switch that has told what it is.
+    /// A message of a switch that has said what it is.
     #[inline(always)]
     fn hear_later(&mut self, alloc: Global, frame: &Frame) -> Result<bool, AllocError>
         ensures ok { IfOk result (λ go. (moment : ℕ) → ActsIn Opened self.old (record { event = SwitchMsg frame.now; moment = moment }) go self.new) }

@@ -1,4 +1,4 @@
-//! The ports that a switch told of.
+//! The ports that a switch reported.
 
 ghost use Rattle.std.specs.Prelude.{◌≡◌, is_some, IsTrue, OnOk, OnErr};
 ghost use Rattle.desk_words.specs.Openings.{kept_by};
@@ -7,7 +7,7 @@ use of10_port::PortStatus;
 use port_view::PortView;
 use std::alloc::AllocError;
 
-/// Takes in what the switch told of one of its ports.
+/// Takes in what the switch reported of one of its ports.
 #[inline(always)]
 pub(crate) fn keep(ports: &mut PortView, told: &Option<PortStatus>) -> Result<(), AllocError>
     ensures ok { OnOk result (ports.new ≡ kept_by told.now ports.old) }

@@ -68,7 +68,7 @@ fn clearing(alloc: Global) -> Result<Frame, AllocError>
     deletion.encode(alloc)
 }
 
-/// What a switch that has told what it is is sent first: packets are to be handed up whole, the table is
+/// What a switch that has said what it is is sent first: packets are to be handed up whole, the table is
 /// emptied, and a barrier ends that.
 pub(crate) fn preparation(alloc: Global) -> Result<Vec<Frame>, AllocError>
     ensures { IfOk result (λ v. v.items ≡ preparation) }

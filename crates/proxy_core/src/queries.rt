@@ -59,7 +59,7 @@ impl Desk {
         matches!(self.phase, Phase::Gone)
     }
 
-    /// Whether the switch is connected and has told what it is.
+    /// Whether the switch is connected and has said what it is.
     pub fn is_open(&self) -> bool
         ensures told { TellsOpening self.now result }
         ensures phase { result ≡ is_open self.now.phase }
@@ -67,7 +67,7 @@ impl Desk {
         matches!(self.phase, Phase::Opened)
     }
 
-    /// Whether the slice at a slot is up: its controller is connected, and the switch has told what it is.
+    /// Whether the slice at a slot is up: its controller is connected, and the switch has said what it is.
     pub fn is_up(&self, slot: u8) -> bool
         ensures { TellsUp self.now slot result }
     {
@@ -78,7 +78,7 @@ impl Desk {
     }
 
     /// What is kept of the slices, by slots, after the end of the switch's connection too; `None` before
-    /// the switch has told what it is.
+    /// the switch has said what it is.
     pub fn states(&self) -> Option<&[SliceState]>
         ensures { TellsStates self.now (option_map (λ states. states.now) result) }
     {
@@ -88,7 +88,7 @@ impl Desk {
         }
     }
 
-    /// The datapath id that the switch told first (OpenFlow 1.0.0, section 5.3.1), after the end of its
+    /// The datapath id that the switch said first (OpenFlow 1.0.0, section 5.3.1), after the end of its
     /// connection too; `None` before that.
     pub fn datapath(&self) -> Option<u64>
         ensures { TellsDatapath self.now result }

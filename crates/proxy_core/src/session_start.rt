@@ -42,7 +42,7 @@ fn empty_queues(alloc: Global, count: usize) -> Result<Vec<Outbox>, AllocError>
 }
 
 impl Session {
-    /// The session that begins with what the switch told of itself.
+    /// The session that begins with what the switch said of itself.
     pub(crate) fn new(
         alloc: Global,
         policy: &Policy,

@@ -42,7 +42,7 @@ pub(crate) fn go(state: &mut SliceState, waiting: &mut Outbox)
     waiting.clear();
 }
 
-/// What is known of a switch: the policy's rules there, its ports, and what it told of itself first.
+/// What is known of a switch: the policy's rules there, its ports, and what it said of itself first.
 #[derive(Clone, Copy)]
 pub(crate) struct SwitchFacts<'a> {
     pub(crate) policy: &'a SwitchPolicy,
@@ -50,7 +50,7 @@ pub(crate) struct SwitchFacts<'a> {
     pub(crate) features: &'a Features,
 }
 
-/// A message of a slice's controller, and the moment at which it came.
+/// A message of a slice's controller, and the timestamp at which it came.
 #[derive(Clone, Copy)]
 pub(crate) struct SliceMessage<'a> {
     pub(crate) slot: u8,

@@ -84,7 +84,7 @@ impl Desk {
         }
     }
 
-    /// Why there is nothing for a slice before the switch has told what it is.
+    /// Why there is nothing for a slice before the switch has said what it is.
     fn silence_before(&self, slot: u8) -> Taken
         ensures plain { is_message result ≡ false }
         ensures value { result ≡ silence_before self.now.policy slot }

@@ -5,7 +5,7 @@ use Rattle.std.proofs.lemmas.Bool.{and_parts, and_from, leb-true, leb-false, le-
 use Rattle.std.proofs.lemmas.Bool.Decides.{same_from_decides}
 use Rattle.rate_bucket.specs.Rates.{latest, Conforms, has_room, is_conforming, accepted, is_accepted, Bucket, BucketStands}
 
--- each moment is at most t
+-- each timestamp is at most t
 abbrev pub Until : ℕ → List ℕ → Type 0
 Until t [] = Unit {0}
 Until t (a ∷ earlier) = (a ≤ t) × Until t earlier
@@ -14,7 +14,7 @@ pub Until-later : (t u : ℕ) (moments : List ℕ) → t ≤ u → Until t momen
 Until-later t u [] tu h = tt
 Until-later t u (a ∷ earlier) tu h = (omega (arith, h.0), Until-later t u earlier tu h.1)
 
--- no question is accepted with a later moment than the greatest
+-- no question is accepted with a later timestamp than the greatest
 pub Until-accepted : (rate burst : ℕ) (questions : List ℕ) → Until (latest questions) (accepted rate burst questions)
 unfolding accepted
 Until-accepted rate burst [] = tt
@@ -33,7 +33,7 @@ product_along rate a t u at tu = grind arith
 product_now : (rate t : ℕ) → rate * (t - t) ≡ 0
 product_now rate t = let e : t - t ≡ 0 = omega arith in rw e (omega arith)
 
--- what there is room for at one moment there is room for at another, more or less by what the time between gives
+-- what there is room for at one timestamp there is room for at another, more or less by what the time between gives
 has_room-moves : (rate burst last t u x y : ℕ) (moments : List ℕ) → Until last moments → ((a : ℕ) → a ≤ last → y + rate * (t - a) ≤ x + rate * (u - a))
     → has_room rate burst t x moments ≡ true → has_room rate burst u y moments ≡ true
 unfolding has_room
@@ -86,7 +86,7 @@ level_decides rate burst t level moments some is =
     (leb-true 1000 level, le-leb 1000 level)
     (λ room. (is 1000).1 (omega arith, room), λ enough. ((is 1000).0 enough).1)
 
--- room is room beside each accepted moment
+-- room is room beside each accepted timestamp
 pub has_room-split : (rate burst t needed : ℕ) (moments : List ℕ) → has_room rate burst t needed moments ≡ true
     → (later earlier : List ℕ) (a : ℕ) → moments ≡ later ++ (a ∷ earlier) → needed + 1000 * length (a ∷ later) ≤ 1000 * burst + rate * (t - a)
 unfolding has_room
@@ -126,7 +126,7 @@ unfolding is_accepted
 answer_conforms answer rate burst questions moment is =
     rw is (conforms rate burst (accepted rate burst questions) (latest (moment ∷ questions)))
 
--- what a question adds to the accepted moments, by its answer
+-- what a question adds to the accepted timestamps, by its answer
 accepted-by : (answer : Bool) (rate burst moment : ℕ) (earlier : List ℕ) → is_accepted rate burst earlier moment ≡ answer
     → accepted rate burst (moment ∷ earlier) ≡ (if answer then latest (moment ∷ earlier) ∷ accepted rate burst earlier else accepted rate burst earlier)
 unfolding accepted is_accepted
@@ -146,7 +146,7 @@ accepted-newest rate burst moment questions [] between earlier a b accepts e bef
 accepted-newest rate burst moment questions (c ∷ later) between earlier a b accepts e before =
     before later between earlier a b cc
 
--- in the time from one accepted moment to another no more are accepted than the rate gives
+-- in the time from one accepted timestamp to another no more are accepted than the rate gives
 pub accepted-window : (rate burst : ℕ) (questions later between earlier : List ℕ) (a b : ℕ)
     → accepted rate burst questions ≡ later ++ (b ∷ (between ++ (a ∷ earlier)))
     → 1000 * (length between + 2) ≤ 1000 * burst + rate * (b - a)
@@ -170,7 +170,7 @@ BucketStands-new rate burst some = record {
   level = λ needed. (λ le. (le, refl), λ p. p.0);
 }
 
--- the level at a question's moment
+-- the level at a question's timestamp
 pub BucketStands-level : (b : Bucket) (questions : List ℕ) (moment level : ℕ) → BucketStands questions b
     → level ≡ min (b.level + b.rate * (moment - b.moment)) (1000 * b.burst)
     → IsLevel b.rate b.burst (latest (moment ∷ questions)) level (accepted b.rate b.burst questions)
@@ -182,7 +182,7 @@ BucketStands-level b questions moment level s is =
     rw e (level_later b.rate b.burst t (max moment t) b.level (accepted b.rate b.burst questions) (omega arith)
     (Until-accepted b.rate b.burst questions) s.level)
 
--- whether a question is accepted shows in the level at its moment
+-- whether a question is accepted shows in the level at its timestamp
 pub BucketStands-decides : (b : Bucket) (questions : List ℕ) (moment level : ℕ) → BucketStands questions b
     → level ≡ min (b.level + b.rate * (moment - b.moment)) (1000 * b.burst)
     → nat_le 1000 level ≡ is_accepted b.rate b.burst questions moment

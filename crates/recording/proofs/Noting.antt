@@ -60,7 +60,7 @@ slice_goes_up switches slices before r st k hs ht =
           ∙ slice_went_up r before s t (get_or (get_or slices s []) t false) (eqb r.switch s) (eqb r.slot t) k refl refl (st.of_slice s t h g);
     }
 
--- ---- a switch goes down
+-- ---- a switch disconnects
 
 switch_went_down : (r : Item) (before : List Item) (s : ℕ) (was : Bool) (b : Bool) → r.kind ≡ 2 → eqb r.switch s ≡ b → was ≡ is_switch_open s before → cond b false was ≡ is_switch_open s (r ∷ before)
 switch_went_down r before s was true k e h = rw (k, e) refl

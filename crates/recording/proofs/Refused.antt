@@ -46,7 +46,7 @@ behind_one front t told = ap (λ l. front ++ l) (flat_map-cons record_bytes t to
 next_place : (front : List ℕ) (t : Told) → length (front ++ record_bytes t) ≡ length front + 16 + length t.bytes
 next_place front t = omega (arith, length-append front (record_bytes t), spell_length t)
 
--- records that are told, and then something wrong
+-- records that are spelled, and then something wrong
 record Stops (slices : ℕ) (front more : List ℕ) (before : List Item) (fault : RecordingFault) : Type 0 where
   told : List Told
   moments : All HasMoment told

@@ -1,4 +1,4 @@
--- What is read is what the file tells.
+-- What is read is what the file says.
 use Rattle.std.proofs.Common.{◌≡◌, ℕ, zero, suc, ◌+◌, ◌-◌, ◌*◌, ◌/◌, ◌%◌, ◌<◌, ◌≤◌, ◌==◌, true, not, ltb, leb, eqb-true, List, [], ◌∷◌, ◌++◌, length, take, drop, bytes_eq, inl, inr, slice_index, Ok, refl, sym, ap, ◌∙◌, append_assoc, arith}
 use Rattle.std.specs.List.{All, flat_map}
 use Rattle.std.proofs.Math.Seq.{drop-append_seam}
@@ -100,7 +100,7 @@ head_spelled (x0 ∷ x1 ∷ x2 ∷ x3 ∷ x4 ∷ x5 ∷ x6 ∷ x7 ∷ x8 ∷ x9 
 
 -- ---- one record
 
--- what the record that these bytes begin with tells
+-- what the record that these bytes begin with says
 abbrev pub told_of : List ℕ → ℕ → Told
 told_of xs size = record { kind = number_at xs 0 1; switch = number_at xs 1 1; slot = number_at xs 2 1; moment = number_at xs 8 8; bytes = take size (drop 16 xs) }
 
@@ -172,7 +172,7 @@ length-begins slices front more before r b =
 
 -- ---- all records
 
--- the bytes spell what the records tell
+-- the bytes spell what the records say
 record AreTold (slices : ℕ) (front more : List ℕ) (before items : List Item) : Type 0 where
   told : List Told
   spelled : more ≡ flat_map record_bytes told

@@ -31,14 +31,14 @@ pub record IsUnfit (slices : ℕ) (before : List Item) (at : ℕ) (rest : List �
   pub begun : rest ≡ record_bytes told ++ later
   pub unfit : fits before (placed_record at told) ≡ false
 
--- a fault tells the place: torn is what ends within a head or behind a head of the form, bad is a head of no form, not open is a whole record that doesn't fit
+-- a fault says the place: torn is what ends within a head or behind a head of the form, bad is a head of no form, not open is a whole record that doesn't fit
 abbrev pub IsFaultAt : ℕ → List Item → ℕ → List ℕ → RecordingFault → Type 0
 IsFaultAt slices before at rest (Torn place) = (place ≡ at) × ((length rest < 16) ⊎ IsCutOff slices at rest)
 IsFaultAt slices before at rest (Bad place) = (place ≡ at) × HasNoForm slices at rest
 IsFaultAt slices before at rest (NotOpen place) = (place ≡ at) × IsUnfit slices before at rest
 IsFaultAt slices before at rest Memory = ⊥
 
--- the file tells records, each of the form and fitting those before it, and then something is wrong
+-- the file spells records, each of the form and fitting those before it, and then something is wrong
 pub record IsFirstRecordingFault (slices : ℕ) (bytes : List ℕ) (fault : RecordingFault) : Type 0 where
   pub told : List Told
   pub moments : All HasMoment told

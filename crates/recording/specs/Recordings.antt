@@ -61,7 +61,7 @@ abbrev pub magic_of : Layout → List ℕ
 magic_of Recording = magic
 magic_of Trace = trace_magic
 
--- the head of a record: kind, switch, slot, a zero byte, the number of its bytes, and its moment
+-- the head of a record: kind, switch, slot, a zero byte, the number of its bytes, and its timestamp
 unfoldable pub head_spelling : ℕ → ℕ → ℕ → ℕ → ℕ → List ℕ
 head_spelling kind switch slot size moment = (kind ∷ switch ∷ slot ∷ 0 ∷ []) ++ big_bytes 4 size ++ big_bytes 8 moment
 
@@ -119,7 +119,7 @@ is_slice_open switch slot (r ∷ before) =
     if r.switch == switch && (r.kind == switch_down || (r.slot == slot && (r.kind == slice_up || r.kind == slice_down))) then r.kind == slice_up
     else is_slice_open switch slot before
 
--- a switch goes up where it isn't, and all else of it comes while it is; a slice goes up where it isn't and its switch is, and all else of it comes while it is
+-- a switch connects where it isn't up, and all else of it comes while it is. A slice connects where it isn't up and its switch is, and all else of the slice comes while it is
 abbrev pub fits : List Item → Item → Bool
 fits before r =
     if r.kind == switch_up then not (is_switch_open r.switch before)
@@ -127,7 +127,7 @@ fits before r =
     else if r.kind == slice_up then is_switch_open r.switch before && not (is_slice_open r.switch r.slot before)
     else is_slice_open r.switch r.slot before
 
--- in a trace a switch goes up where it isn't, and all else comes while it is
+-- in a trace a switch connects where it isn't up, and all else comes while it is
 abbrev pub fits_trace : List Item → Item → Bool
 fits_trace before r = if r.kind == switch_up then not (is_switch_open r.switch before) else is_switch_open r.switch before
 
@@ -224,9 +224,9 @@ pub record IsItem (slices : ℕ) (bytes : List ℕ) (r : Item) : Type 0 where
   pub size : r.size ≤ byte_limit r.kind
   pub within : r.from + r.size ≤ length bytes
 
--- ---- what a recording tells
+-- ---- what a recording says
 
--- what one record tells
+-- what one record says
 pub record Told : Type 0 where
   pub kind : ℕ
   pub switch : ℕ
@@ -234,7 +234,7 @@ pub record Told : Type 0 where
   pub moment : ℕ
   pub bytes : List ℕ
 
--- the record at a place that tells it
+-- the record at a place that says it
 abbrev pub placed_record : ℕ → Told → Item
 placed_record at t = record { kind = t.kind; switch = t.switch; slot = t.slot; moment = t.moment; from = at + 16; size = length t.bytes }
 
@@ -252,10 +252,10 @@ may_be_told slices before (r ∷ others) = has_form Recording slices 0 r && fits
 abbrev pub record_bytes : Told → List ℕ
 record_bytes t = record_spelling t.kind t.switch t.slot t.moment t.bytes
 
--- a moment takes eight bytes
+-- a timestamp takes eight bytes
 abbrev pub HasMoment : Told → Type 0
 HasMoment t = t.moment < 2 ^ 64
 
--- the file that tells the records
+-- the file that spells the records
 abbrev pub recording : List Told → List ℕ
 recording told = magic ++ flat_map record_bytes told

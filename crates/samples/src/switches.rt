@@ -1,4 +1,4 @@
-//! Ports, and what a switch tells of itself.
+//! Ports, and what a switch says of itself.
 
 ghost use Rattle.std.specs.Prelude.{◌≡◌, IfOk, [], ◌∷◌};
 ghost use Rattle.of10_port.specs.Ports.{bare_port};

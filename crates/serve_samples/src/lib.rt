@@ -1,4 +1,4 @@
-//! Calls of `serve` whose contract says nothing, and works on threads: what a test proves of its own call stays small.
+//! Calls of `serve` whose contract says nothing, and threads: what a test proves of its own call stays small.
 #![tactic(auto)]
 
 ghost use Rattle.std.specs.Prelude.{◌≡◌, false};
@@ -51,7 +51,7 @@ pub fn status<
     )
 }
 
-/// The thread that runs the work, and then counts it.
+/// The thread that runs the work, and then counts itself.
 pub fn begin<
     R: Host + Net<Listener = TcpListener, Stream = TcpStream> + Send + 'static,
     W: Work + Send + 'static,

@@ -258,7 +258,7 @@ dismissed s sight (Msg message moment) t m old new at forgot stands is =
     })
 dismissed s sight item t m old new at forgot stands is = absurd is
 
--- a bucket that was asked at a moment
+-- a bucket that was asked at a timestamp
 pub record Asks (m : ℕ) (old new : Bucket) : Type 0 where
   pub stands : (asked : List ℕ) → BucketStands asked old → BucketStands (m ∷ asked) new
   pub rate : new.rate ≡ old.rate

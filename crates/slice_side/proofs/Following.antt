@@ -43,7 +43,7 @@ pub follows : (s : Settings) (sight : Sight) (message : List ℕ) (read : Readin
 follows s sight message read a moment r change said none nothing close is asked =
     follows_sent s sight message read a moment r change [] said none (sym (ap (map (rendered sight.came)) nothing)) close is asked
 
--- whether messages are sent tells whether any follow
+-- whether messages are sent shows whether any follow
 any_rendered : (came : List ℕ) (messages : List Outgoing) → is_any (map (rendered came) messages) ≡ is_any messages
 any_rendered came [] = refl
 any_rendered came (message ∷ messages) = ap (λ n. leb 1 (suc n)) (length-map messages (rendered came))

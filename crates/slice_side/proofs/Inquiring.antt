@@ -43,7 +43,7 @@ by_port all own is = ap (λ (b : Bool). b || own) is
 pub statistics_refused : (g : Ground) (request : StatsRequest) (message : List ℕ) → may_ask g request ≡ false → statistics_answer g request message ≡ refused not_permitted message
 statistics_refused g request message is = ap (λ (b : Bool). if b then statistics_asked g request message else refused not_permitted message) is
 
--- by what it is asked as, the slice's table is told or the question is sent on
+-- by what it is asked as, the slice's table is reported or the question is sent on
 abbrev by_asked : Ground → List ℕ → Option StatsRequest → Answer
 by_asked g message asked = elim asked [ None ↦ told (table_reply (length g.booked) g.quota (xid_of message) ∷ []) | Some sent ↦ asking g (ForStatistics sent) ]
 

@@ -157,6 +157,6 @@ command_known g m none = elim (leb_tells 5 m.command) [
   | inr few ↦ (let less = few.1 in omega arith)
 ]
 
--- messages that are told to be too large are
+-- messages that are said to be too large are
 pub large_told : {A : Type 0} (view : A → List (List ℕ)) (fault : BuildFault) (messages : List (List ℕ)) → fault ≡ TooLarge → GivesMessages view (Err fault) messages → are_too_large messages ≡ true
 large_told view fault messages is told = subst (λ (f : BuildFault). GivesMessages view (Err f) messages) is told

@@ -78,7 +78,7 @@ IsInquirySent g said.BarrierRequest question = question ≡ message_of BARRIER_R
 IsInquirySent g (said.QueueGetConfigRequest queues) question = (is_own_port g.slot g.patterns queues.port ≡ true) × (question ≡ spell_queues_request g.xid queues)
 IsInquirySent g asked question = ⊥
 
--- this is sent on for a message of which this was read: nothing; the flow-mods for it where it is one that no line refuses; the packet-out for it where it is one that no line refuses; or one question that the slice may ask with it
+-- this is sent on for a message of which this was read: nothing; the flow-mods or the packet-out for it, where it is one that no line refuses; or one question that the slice may ask with it
 abbrev pub IsSentOn : SliceState → Ground → Reading → List (List ℕ) → Type 0
 IsSentOn state g read sent =
     (sent ≡ [])

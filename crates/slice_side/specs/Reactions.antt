@@ -38,7 +38,7 @@ use Rattle.slice_side.specs.declared.change.Modification.{Modification}
 abbrev pub physical_said : SwitchView → ℕ → FromController → FromController
 physical_said policy slot message = turned_said (exchanged (pairs_of policy.swaps slot)) message
 
--- what is said of the switch is what a slice saw of it: the matches of the rules that the slice writes are its own, and its swaps and its quota are; the features are those of its opening but for the ports, and of the known ports its own are those that it knows; and it is up
+-- what is said of the switch is what a slice saw of it. The matches of the rules that the slice writes are the slice's own, and so are the swaps and the quota. The features are those of the opening but for the ports. Of the known ports the slice's own are those that it knows. And the slice is up
 pub record Sees (s : Settings) (view : List Item) (policy : SwitchView) (known : List (List ℕ)) (features : Features) (slot : ℕ) : Type 0 where
   pub same_slot : s.slot ≡ slot
   pub same_patterns : s.patterns ≡ writes_of policy.rules slot
@@ -50,7 +50,7 @@ pub record Sees (s : Settings) (view : List Item) (policy : SwitchView) (known :
   pub same_ports : known_ports view ≡ ports_of_slice policy.rules slot known
   pub up : is_up view ≡ true
 
--- what a slice is told of its switch, and how much of a packet it wants, by its view
+-- what a slice is sent of its switch, and how much of a packet it wants, by its view
 pub record Shown (view : List Item) (rules : List Rule) (known : List (List ℕ)) (features : Features) (slot wanted : ℕ) : Type 0 where
   pub same_wanted : wanted ≡ miss_send_len view
   pub opening : Features
@@ -125,7 +125,7 @@ pub record IsInquiry (held : List HeldPacket) (message : List ℕ) (read : Readi
   pub same_moment : at ≡ moment
   pub uses : Uses None held a.to_switch
 
--- the change that a message asks for, by what is read of it and what follows: it only came; it sets how much of a packet is wanted; it ends the connection; it asked the rate, and nothing is sent on; or it is a flow-mod, a packet-out, or what asks for a reply, that is
+-- the change that a message asks for, by what is read of it and what follows. It only came; it sets how much of a packet is wanted; it ends the connection; or it asked the rate, and nothing is sent on. Or it is a flow-mod, a packet-out, or what asks for a reply, that is sent on
 abbrev pub IsChangeFor : List Pattern → List HeldPacket → List ℕ → Reading → Answer → ℕ → Change → Type 0
 IsChangeFor patterns held message read a moment (Heard t) = (ends_connection read ≡ false) × (length_wanted read ≡ None) × (asks_switch read ≡ false) × (t ≡ moment)
 IsChangeFor patterns held message read a moment (Set t wanted) = (length_wanted read ≡ Some wanted) × (t ≡ moment)

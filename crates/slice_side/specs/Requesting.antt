@@ -6,7 +6,7 @@ use Rattle.rate_bucket.specs.Rates.{BucketStands}
 use Rattle.flow_book.specs.declared.state.SliceState.{SliceState}
 use Rattle.slice_side.specs.Reactions.{without_physical, is_used_up}
 
--- a request of a moment is remembered, has asked the rate at the greatest of the slice's moments, and uses up the packet of a number, where there is one; all else stays as it is
+-- a request of a timestamp is remembered, has asked the rate at the greatest of the slice's timestamps, and uses up the packet of a number, where there is one. All else stays as it is
 pub record IsRequested (at : ℕ) (asked : Asked) (used : Option ℕ) (old new : SliceState) : Type 0 where
   pub moment : new.moment ≡ max at old.moment
   pub bucket : (questions : List ℕ) → BucketStands questions old.bucket → BucketStands (new.moment ∷ questions) new.bucket

@@ -7,7 +7,7 @@ use flowspace::SwitchPolicy;
 use of10_port::Features;
 use port_view::PortView;
 
-/// What a slice is told of its switch, and what is kept of the slice.
+/// What a slice is sent of its switch, and what is kept of the slice.
 #[derive(Clone, Copy)]
 pub(crate) struct Around<'a> {
     pub(crate) policy: &'a SwitchPolicy,

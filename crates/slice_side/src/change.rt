@@ -12,13 +12,13 @@ pub struct Modification {
     /// What the slice may write of its match, one for each message that is sent.
     pub pieces: Vec<Match>,
     pub priority: u16,
-    /// Whether the controller wants to be told when the entry goes (SEND_FLOW_REM).
+    /// Whether the controller wants a report when the entry is removed (SEND_FLOW_REM).
     pub asks: bool,
     /// The slice's number of the packet that it uses up, where it uses one.
     pub used: Option<u32>,
 }
 
-/// What a message of a slice changes in the slice's state. Moments are milliseconds.
+/// What a message of a slice changes in the slice's state. Timestamps are milliseconds.
 #[derive(Drop)]
 pub enum Change {
     /// A message came.

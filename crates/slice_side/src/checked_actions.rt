@@ -65,7 +65,7 @@ pub(crate) fn check_actions(
     }
 }
 
-/// The lists for all pieces. An action that is forbidden for any piece is told before a list that is too
+/// The lists for all pieces. An action that is forbidden for any piece is reported before a list that is too
 /// long for any.
 pub(crate) fn list_pieces(
     alloc: Global,

@@ -55,8 +55,8 @@ fn kind_of(request: &StatsRequest) -> AskKind
     }
 }
 
-/// A request for statistics that keeps the rate (OpenFlow 1.0.0, section 5.3.5). The slice's one table is told
-/// at once.
+/// A request for statistics that keeps the rate (OpenFlow 1.0.0, section 5.3.5). The slice's one table is
+/// reported at once.
 pub(crate) fn statistics(
     alloc: Global,
     around: &Around<'_>,

@@ -1,4 +1,4 @@
--- The latest moment of a view is the greatest of the moments of its items.
+-- The latest timestamp of a view is the greatest of the timestamps of its items.
 use Rattle.std.proofs.Common.{◌≡◌, ◌≤◌, ◌⊎◌, ℕ, ◌<◌, true, false, leb, List, [], ◌∷◌, max, All, Contains, refl, arith, inl, inr}
 use Rattle.std.proofs.lemmas.Bool.Decides.{leb_tells}
 use Rattle.std.proofs.lemmas.List.Elements.{All-nil, All-cons, All-weaker, Contains-append_right}
@@ -6,7 +6,7 @@ use Rattle.rate_bucket.specs.Rates.{latest}
 use Rattle.slice_words.specs.Items.{Item, moments}
 use Rattle.slice_words.specs.Laws.{IsAtLeastEach, IsOneOrZero}
 
--- another moment before the rest
+-- another timestamp before the rest
 least_before : (moment greatest : ℕ) (rest : List ℕ) → All (λ m. m ≤ greatest) rest → All (λ m. m ≤ max moment greatest) (moment ∷ rest)
 least_before moment greatest rest each =
     All-cons (λ m. m ≤ max moment greatest) moment rest (omega arith)

@@ -117,7 +117,7 @@ forwarded_answer s view past said.BarrierRequest message = barrier_asked (ground
 forwarded_answer s view past (said.QueueGetConfigRequest queues) message = queues_answer (ground_of s view past) queues message
 forwarded_answer s view past other message = no_answer
 
--- a message that is to be sent on keeps the rate: its moment is the greatest of the slice's moments so far
+-- a message that is to be sent on keeps the rate: its timestamp is the greatest of the slice's timestamps so far
 abbrev pub keeps_rate : Settings → List Item → List Past → ℕ → Bool
 keeps_rate s view past moment = is_accepted s.rate s.burst (questions past) (max moment (latest_moment view))
 
@@ -163,7 +163,7 @@ packet_told view packet Probe = packet_message NO_BUFFER (packet.total_len - 8) 
 
 -- ---- entries and errors
 
--- a slice is told that an entry is gone where the pair was booked and asked for that (section 5.4.2)
+-- a removed entry is reported to a slice where the pair was booked and asked for that (section 5.4.2)
 abbrev pub removal_told : Option Booked → FlowRemoved → List (List ℕ)
 removal_told None entry = []
 removal_told (Some booked) entry = if booked.asked then spell_flow_removed (record entry { xid = 0 }) ∷ [] else []

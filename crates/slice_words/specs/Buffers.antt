@@ -31,7 +31,7 @@ is_named ordinal messages = list_any (λ message. is_value ordinal (packet_named
 abbrev pub is_recent_packet : ℕ → HeldPacket → Bool
 is_recent_packet count packet = leb count (packet.ordinal + 256)
 
--- the packets that are held after an item, and what followed from it, where these were before and the slice was given so many: a buffered packet that is handed up takes the place of the one 256 before it; one is lost; a connection that comes or ends drops all; and what is sent on uses those that it names
+-- the packets that are held after an item, and what followed from it, where these were before and the slice was given so many. A buffered packet that is handed up takes the place of the one 256 before it. A lost packet is dropped. A connection that begins or ends drops all. What is sent on uses the packets that it names
 abbrev pub held_after : ℕ → Item → Answer → List HeldPacket → List HeldPacket
 held_after count Up answer held = []
 held_after count Down answer held = []

@@ -26,7 +26,7 @@ abbrev pub error_marks : Option Issued → List RequestCall
 error_marks None = []
 error_marks (Some request) = MarkError request.number ∷ []
 
--- a reply that the slice is told of marks the request that it is for
+-- a reply that the slice is sent marks the request that it is for
 abbrev pub reply_marks : Answer → Option Issued → List RequestCall
 reply_marks answer None = []
 reply_marks answer (Some request) = if is_any answer.to_slice then MarkDone request.number ∷ [] else []
@@ -73,7 +73,7 @@ abbrev pub asks_rate : Item → List Item → Bool
 asks_rate (Msg message moment) before = is_up before && is_question message
 asks_rate item before = false
 
--- the moments at which the rate was asked for a message: each is the greatest of the slice's moments so far
+-- the timestamps at which the rate was asked for a message: each is the greatest of the slice's timestamps so far
 abbrev pub questions : List Past → List ℕ
 questions [] = []
 questions (p ∷ past) = if asks_rate p.item (view_in past) then latest_moment (p.item ∷ view_in past) ∷ questions past else questions past
@@ -90,7 +90,7 @@ abbrev pub failure : Option Issued → Option (Pattern × ℕ) → List BookCall
 failure (Some request) (Some pair) = books.Failed request.number pair.0 pair.1 ∷ []
 failure request pair = []
 
--- a flow-mod that is sent on, an entry that is gone, and an error that carries a pair
+-- a flow-mod that is sent on, an entry that was removed, and an error that carries a pair
 abbrev pub booked_by : Settings → List RequestCall → Item → Answer → List BookCall
 booked_by s before (Msg message moment) answer = if is_any answer.to_switch then bookings s (issued before) (message_read s message) else []
 booked_by s before (Removed entry) answer = books.Removed entry.pattern entry.priority ∷ []

@@ -38,7 +38,7 @@ lone_rule slot m = record { switch = None; priority = 0; pattern = m; writer = S
 abbrev pub message_turned : Settings → List ℕ → List ℕ
 message_turned s message = turn_in s.swaps message
 
--- what is read of it. Of the message as it came are what is quoted of it and its transaction id, and what no number of a port decides: whether it ends the connection (is_dismissing), which length it sets (length_set), and whether it is a question (is_question)
+-- what is read of it. What is quoted of the message and its transaction id are of the message as it came. So is what no number of a port decides: whether the message ends the connection (is_dismissing), which length it sets (length_set), and whether it is a question (is_question)
 abbrev pub message_read : Settings → List ℕ → Reading
 message_read s message = read_turned s.swaps message
 
@@ -72,20 +72,20 @@ pub record Packet : Type 0 where
 
 -- one thing that a slice sees. What the switch answers names the low 24 bits of a transaction id
 pub data Item : Type 0 where
-  -- the switch told what it is (section 5.3.1): its known ports are cut to those of the slice, and its tables count as one
+  -- the switch said what it is (section 5.3.1): its known ports are cut to those of the slice, and its tables count as one
   Opened : Features → Item
   -- the slice's controller connected, or its connection ended
   Up : Item
   Down : Item
-  -- a message of the controller, and the moment when it came
+  -- a message of the controller, and its timestamp
   Msg : List ℕ → ℕ → Item
   -- the switch uses the number of the slice's k-th buffered packet for another packet
   Lost : ℕ → Item
   -- a packet is handed up (section 5.4.1)
   Handed : Packet → Item
-  -- an entry of the slice is gone (section 5.4.2); the transaction id counts as 0
+  -- an entry of the slice was removed (section 5.4.2); the transaction id counts as 0
   Removed : FlowRemoved → Item
-  -- a port of the slice came, went or changed (section 5.4.3)
+  -- a port of the slice was added, removed or changed (section 5.4.3)
   Status : PortStatus → Item
   -- an error (section 5.4.4) with its class and code, and the match and priority of the flow-mod that it carries
   Fault : ℕ → ℕ → ℕ → Option (Pattern × ℕ) → Item
@@ -107,7 +107,7 @@ pub record Sight : Type 0 where
 
 -- ---- look-ups in a view
 
--- an item says that the slice came up, went down, or sent a message that ends its connection
+-- an item says that the slice connected, disconnected, or sent a message that ends its connection
 abbrev pub is_forgetting : Item → Bool
 is_forgetting Up = true
 is_forgetting Down = true
@@ -122,7 +122,7 @@ is_up (Down ∷ view) = false
 is_up (Msg message moment ∷ view) = if is_dismissing message then false else is_up view
 is_up (item ∷ view) = is_up view
 
--- what the controller set last for how much of a packet it wants (section 5.3.2), since the slice last came up, went down or sent a dismissing message; 128 where it set nothing since (section 4.1.2)
+-- what the controller set last for how much of a packet it wants (section 5.3.2), since the slice last connected, disconnected or sent a dismissing message; 128 where it set nothing since (section 4.1.2)
 abbrev pub miss_send_len : List Item → ℕ
 miss_send_len [] = 128
 miss_send_len (Up ∷ view) = 128
@@ -130,12 +130,12 @@ miss_send_len (Down ∷ view) = 128
 miss_send_len (Msg message moment ∷ view) = if is_dismissing message then 128 else unwrap_or (length_set message) (miss_send_len view)
 miss_send_len (item ∷ view) = miss_send_len view
 
--- the moment of an item that has one: a message of the controller
+-- the timestamp of an item that has one: a message of the controller
 abbrev pub moment_of : Item → Option ℕ
 moment_of (Msg message moment) = Some moment
 moment_of item = None
 
--- the moments of the controller's messages
+-- the timestamps of the controller's messages
 abbrev pub moments : List Item → List ℕ
 moments view = filter_map moment_of view
 
@@ -159,13 +159,13 @@ abbrev pub buffered_count : List Item → ℕ
 buffered_count [] = 0
 buffered_count (item ∷ view) = if hands_up_buffered item then buffered_count view + 1 else buffered_count view
 
--- what the switch told of itself
+-- what the switch said of itself
 abbrev pub features_in : List Item → Option Features
 features_in [] = None
 features_in (Opened features ∷ view) = Some features
 features_in (item ∷ view) = features_in view
 
--- the ports of the slice: those that the switch told of first, and then each change (sections 5.3.1 and 5.4.3)
+-- the ports of the slice: those that the switch reported first, and then each change (sections 5.3.1 and 5.4.3)
 abbrev pub known_ports : List Item → List (List ℕ)
 known_ports [] = []
 known_ports (Opened features ∷ view) = features.ports

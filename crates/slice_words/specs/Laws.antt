@@ -68,7 +68,7 @@ IsForgotten later item earlier = is_forgetting item ≡ true → list_any is_set
 abbrev pub IsNeverSet : List Item → Type 0
 IsNeverSet view = list_any is_set view ≡ false → miss_send_len view ≡ 128
 
--- the latest moment of a view is at least each of its moments
+-- the latest timestamp of a view is at least each of its timestamps
 abbrev pub IsAtLeastEach : List Item → Type 0
 IsAtLeastEach view = All (λ moment. moment ≤ latest_moment view) (moments view)
 

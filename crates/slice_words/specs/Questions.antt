@@ -21,7 +21,7 @@ may_ask g request = true
 abbrev pub asking : Ground → Inquiry → Answer
 asking g inquiry = forwarded (Asks inquiry g.xid ∷ [])
 
--- a request for statistics is sent on as what it is asked as; the slice's table is told at once
+-- a request for statistics is sent on as what it is asked as; the slice's table is reported at once
 abbrev pub statistics_asked : Ground → StatsRequest → List ℕ → Answer
 statistics_asked g request message =
     elim (asked_as request) [ None ↦ told (table_reply (length g.booked) g.quota (xid_of message) ∷ []) | Some asked ↦ asking g (ForStatistics asked) ]

@@ -1,4 +1,4 @@
--- What a slice is told of what the switch replies to its requests: to barriers (OpenFlow 1.0.0, section 5.3.7), to questions for queues (5.3.4) and to requests for statistics (5.3.5), which are collected until the last part has come. What is collected, and how it is replied, is this proxy's own rule.
+-- What a slice is sent of what the switch replies to its requests: to barriers (OpenFlow 1.0.0, section 5.3.7), to questions for queues (5.3.4) and to requests for statistics (5.3.5). Statistics are collected until the last part has come. What is collected, and how it is replied, is this proxy's own rule.
 use Rattle.std.specs.Prelude.{ℕ, ◌==◌, ◌&&◌, not, Bool, true, false, if◌then◌else◌, List, [], ◌∷◌, Option, Some, None, is_some}
 use Rattle.of10_model.specs.Normal.{is_value}
 use Rattle.of10_ctl.specs.declared.kind.TheConstants.{BARRIER_REPLY}
@@ -53,7 +53,7 @@ abbrev pub finished : Option Issued → List CollectionCall
 finished None = []
 finished (Some request) = Finish request.number ∷ []
 
--- ---- what the slice is told, under its own transaction id
+-- ---- what the slice is sent, under its own transaction id
 
 -- the reply to a barrier, once
 abbrev pub barrier_told : Option Issued → List (List ℕ)

@@ -35,14 +35,14 @@ pub fn ends_exactly()
 {}
 
 /// How much of a packet a slice's controller wants is what its last SET_CONFIG that was taken says, since
-/// the slice last came up, went down or sent a message that ends its connection; 128 where there is none.
+/// the slice last connected, disconnected or sent a message that ends its connection; 128 where there is none.
 pub fn length_by_the_last()
     ensures set { (later : List Item) (message : List ℕ) (moment wanted : ℕ) (earlier : List Item) → IsSetByTheLast later message moment wanted earlier }
     ensures forgotten { (later : List Item) (item : Item) (earlier : List Item) → IsForgotten later item earlier }
     ensures never { (view : List Item) → IsNeverSet view }
 {}
 
-/// The latest moment of a view is the greatest of the moments of its items that have one: it is at least
+/// The latest timestamp of a view is the greatest of the timestamps of its items that have one: it is at least
 /// each of them, and it is one of them; zero where there is none.
 pub fn latest_is_the_greatest_moment()
     ensures least { (view : List Item) → IsAtLeastEach view }

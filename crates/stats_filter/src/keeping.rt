@@ -40,9 +40,9 @@ fn keeps_port(policy: &SwitchPolicy, slot: u8, entry: &[u8]) -> bool
     policy.has_port(slot, entry_port(entry))
 }
 
-/// Whether a well-formed entry that came for a request of the kind is the slice's: a flow where its match lies
-/// in one of the slice's write rules, a port or a queue where its port is the slice's, and each description of
-/// the switch. Takes no memory.
+/// Whether a well-formed entry that came for a request of the kind is the slice's. A flow is where its match
+/// lies in one of the slice's write rules. A port or a queue is where its port is the slice's. Each
+/// description of the switch is. Takes no memory.
 #[tactic(auto, unfolding(crate::specs::Keeping::is_own_entry))]
 pub fn keep(policy: &SwitchPolicy, slot: u8, kind: AskKind, entry: &[u8]) -> bool
     requires { MayCome kind entry.now }

@@ -53,8 +53,9 @@ fn page_end(kind: u16, entries: &[u8]) -> usize
 }
 
 /// The replies to a request of the kind with these entries, which stand one behind another (OpenFlow 1.0.0,
-/// section 5.3.5): whole entries in their order, as many in each reply as fit 65,535 bytes, with MORE on all but
-/// the last; one reply at least. Behind the first entry that isn't well formed nothing is taken.
+/// section 5.3.5). There is one reply at least. Each reply has whole entries in their order, as many as fit
+/// 65,535 bytes. All replies but the last have MORE. Behind the first entry that isn't well formed nothing is
+/// taken.
 pub fn replies(
     alloc: Global,
     kind: AskKind,

@@ -34,13 +34,13 @@ Follow p switch sides moment message told listed = (told ≡ answered_to_all p s
 
 module _ (p : PolicyView) (switch : KnownSwitch) (sides : ℕ → SliceSide) (moment : ℕ) (message : List ℕ) (states : List SliceState)
     (opened : switch.phase ≡ Opened) (same : length states ≡ length p.slices) (stand : AllStand p switch sides states) (numbered : AllNumbered p switch sides) where
-  -- what is told and what changes, by what was read of the message
+  -- what is sent and what changes, by what was read of the message
   abbrev FollowSaid : Result SwitchMessage Unread → Type 0
   FollowSaid said =
       Follow p switch sides moment message (message_told (called_at p switch sides) (rules_of p switch.features) switch.known states (xid_of message) said)
       (message_changes (called_at p switch sides) (rules_of p switch.features) states (xid_of message) said)
 
-  -- a message that is for all and tells of no packet changes nothing
+  -- a message that is for all and hands up no packet changes nothing
   unchanged : (said : Result SwitchMessage Unread) (slot : ℕ) (here : Bool) → read_switch message ≡ said → is_slot p slot ≡ here → packet_said said ≡ None → is_for_one said ≡ false
       → SlotChanges (settings_at p slot switch.features) None (sides slot).sight (items_of p slot switch (sides slot) (told_at moment message)) []
   unchanged said slot false is none no_packet all = unseen p switch sides moment message slot none

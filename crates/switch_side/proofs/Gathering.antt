@@ -155,7 +155,7 @@ told_entries : (kind : AskKind) (g : Gathered) (xid : ℕ) → KeepsEntries kind
 told_entries kinds.Aggregate g xid none = absurd none
 told_entries kind g xid keeps = refl
 
--- the slice is told what was kept
+-- the slice is sent what was kept
 pub kept_told : (kind : AskKind) (number sent xid : ℕ) (last : List ℕ) (calls : List CollectionCall) → KeepsEntries kind → type_sent kind ≡ Some sent
     → replies_for kind (with_kept (entries_in sent last) (gathered number calls)) xid ≡ collected_replies kind (gathered number (calls_with kind number last calls)) xid
 kept_told kind number sent xid last calls keeps is =

@@ -111,7 +111,7 @@ module _ (s : Settings) (sight : Sight) (x : ℕ) where
 
   -- ---- a reply to a barrier, or on queues
 
-  -- a reply of which the slice isn't told
+  -- a reply that the slice isn't sent
   reply_passes : (item : Item) (state : SliceState) → is_reply_under x item ≡ true → (answer_to s sight.view item).to_slice ≡ [] → SliceStands s sight state → SliceStands s (seen_with None (item ∷ []) sight) state
   reply_passes item state is none stands =
       stands_on s sight (item ∷ sight.view) state state (reply_rest s x sight.view item is) (same_state state) stands (rw (reply_unmarked s x sight.view item is none) stands.requests)

@@ -1,4 +1,4 @@
--- What replies of the switch make of the calls of a view, and what a slice is told of them.
+-- What replies of the switch make of the calls of a view, and what a slice is sent of them.
 use Rattle.std.proofs.Common.{◌≡◌, ℕ, suc, ◌&&◌, Bool, true, false, if◌then◌else◌, List, [], ◌∷◌, ◌++◌, map, length, refl, ap, ap₂, sym, ◌∙◌, true≢false, eqb-true, arith, Option, Some, None, is_some}
 use Rattle.std.proofs.lemmas.Bool.{and_parts, le-leb}
 use Rattle.of10_model.specs.Normal.{is_value}
@@ -74,7 +74,7 @@ module _ (s : Settings) (x sent : ℕ) where
   entries_book [] view = refl
   entries_book (entry ∷ later) view = entries_book later (Entry x sent entry ∷ view)
 
-  -- the slice is told nothing of them
+  -- the slice is sent nothing of them
   entry_silent : (up : Bool) (view : List Item) (entry : List ℕ) → is_up view ≡ up → (answer_to s view (Entry x sent entry)).to_slice ≡ []
   entry_silent true view entry is = rw is refl
   entry_silent false view entry is = rw is refl
@@ -131,7 +131,7 @@ module _ (s : Settings) (x sent : ℕ) where
 
   -- ---- the end of statistics
 
-  -- what the slice is told with the last part
+  -- what the slice is sent with the last part
   last_answer : (view : List Item) (request : Option Issued) (calls : List CollectionCall) → request_for s x (request_calls s (past_of s view)) ≡ request → collection_calls s (past_of s view) ≡ calls → is_up view ≡ true
       → (answer_to s view (Last x sent)).to_slice ≡ statistics_told request sent calls
   last_answer view request calls found same up = rw up (ap₂ (λ (r : Option Issued) (now : List CollectionCall). statistics_told r sent now) found same)

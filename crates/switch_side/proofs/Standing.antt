@@ -173,7 +173,7 @@ either : (s : Settings) (sight : Sight) (state : SliceState) (b : Bool) (some ot
     → SliceStands s (seen_with None (if b then some else others) sight) state
 either s sight state b some others one other = cond_both b some others (λ items. SliceStands s (seen_with None items sight) state) (λ is. one) (λ isnt. other)
 
--- a message that tells of no packet, and is not for one slice at most
+-- a message that hands up no packet, and is not for one slice at most
 pub said_stands : (p : PolicyView) (slot : ℕ) (switch : KnownSwitch) (side : SliceSide) (xid : ℕ) (said : Result SwitchMessage Unread) (state : SliceState) → packet_said said ≡ None → is_for_one said ≡ false
     → SliceStands (settings_at p slot switch.features) side.sight state
     → SliceStands (settings_at p slot switch.features) (seen_with None (said_items p slot switch side xid said) side.sight) state

@@ -23,7 +23,7 @@ use Rattle.switch_side.specs.Carrying.{packet_for, port_told}
 use Rattle.switch_side.proofs.MessageTypes.{is_for_one}
 use Rattle.switch_side.proofs.Slots.{say_status, say, slot_sent}
 
--- ---- what is said to all is what is told
+-- ---- what is said to all is what is sent
 
 abbrev Say : Type 0
 Say = ℕ → SliceState → List (List ℕ)
@@ -39,7 +39,7 @@ said_status : (rules : List Rule) (states : List SliceState) (status : Option Po
 said_status rules states None = said_none 0 states
 said_status rules states (Some status) = refl
 
--- a message that is told among so many slices, unless it is for one at most
+-- a message that is sent among so many slices, unless it is for one at most
 abbrev told_among : ℕ → List Rule → List (List ℕ) → List SliceState → Result SwitchMessage Unread → List (ℕ × List ℕ)
 told_among count rules known states (Ok (says.PacketIn packet)) = said_from (packet_for (audience_of count rules packet) packet) 0 states
 told_among count rules known states said = port_told rules states (kept_beside known (status_said said))
@@ -85,7 +85,7 @@ one_sent p switch sides moment message said states opened same stand is all slot
     let here : slice_get states k ≡ Some state = subst (λ x. slice_get states x ≡ Some state) same_slot found in
     sym (slot_sent p k moment switch (sides k) message said state opened (lt-ltb k (length p.slices) lt) is all (stand k state here) (λ port. own_ports p switch k port slice.0 slice.1))
 
--- what the states are told is what the slices are sent, for a message that is for all
+-- what is sent by the states is what the slices are sent, for a message that is for all
 pub told_sent : (p : PolicyView) (switch : KnownSwitch) (sides : ℕ → SliceSide) (moment : ℕ) (message : List ℕ) (said : Result SwitchMessage Unread) (states : List SliceState)
     → switch.phase ≡ Opened → length states ≡ length p.slices → AllStand p switch sides states → read_switch message ≡ said → is_for_one said ≡ false
     → told_among (length states) (rules_of p switch.features) switch.known states said ≡ answered_to_all p switch sides (told_at moment message) 0 p.slices

@@ -1,4 +1,4 @@
--- What follows for each slice from an entry that is gone, and from an error.
+-- What follows for each slice from an entry that was removed, and from an error.
 use Rattle.std.proofs.Common.{◌≡◌, ℕ, ◌/◌, ◌%◌, ◌^◌, ◌<◌, ◌==◌, Bool, true, false, if◌then◌else◌, List, [], ◌∷◌, ◌++◌, length, slice_get, refl, ap, ap₂, subst, sym, ◌∙◌, append-nil, arith, true≢false, eqb-true, Option, Some, None, option_map, option_and_then, Result, Ok, IfOk}
 use Rattle.std.specs.declared.alloc.AllocError.{AllocError}
 use Rattle.std.specs.List.{list_any}
@@ -132,7 +132,7 @@ module _ (p : PolicyView) (switch : KnownSwitch) (sides : ℕ → SliceSide) (st
   abbrev sight : ℕ → Sight
   sight slot = (sides slot).sight
 
-  -- ---- an entry that is gone
+  -- ---- an entry that was removed
 
   removal_follows : (slot : ℕ) (state : SliceState) (entry : FlowRemoved) → slice_get states slot ≡ Some state
       → FollowsFrom (settings slot) (sight slot) (Removed (record entry { xid = 0 }) ∷ []) (Some (removal_turn (called slot) entry slot state))

@@ -66,7 +66,7 @@ abbrev pub AllCalled : (ℕ → CallsOf) → List SliceState → Type 0
 AllCalled called states =
     (slot : ℕ) (state : SliceState) → slice_get states slot ≡ Some state → RequestsStand slot (called slot).requests state.xids × BookStands (called slot).book state.book × CollectionsStand (called slot).collections state.collections
 
--- ---- what several slices may be told
+-- ---- what several slices may be sent
 
 -- a message where it is due
 abbrev pub once : Bool → List ℕ → List (List ℕ)
@@ -78,7 +78,7 @@ status_for rules status slot state = once (state.up && has_port rules slot (port
 
 -- ---- packets
 
--- a packet as readers are told it: whole, without a number
+-- a packet as readers are sent it: whole, without a number
 abbrev pub unnumbered : PacketIn → PacketIn
 unnumbered packet = record packet { xid = 0; buffer = NO_BUFFER }
 
@@ -95,7 +95,7 @@ abbrev pub written_as : ℕ → ℕ → PacketIn → PacketIn
 written_as wants given packet =
     if packet.buffer == NO_BUFFER then unnumbered packet else record packet { xid = 0; buffer = given % 2 ^ 24; payload = wanted wants packet }
 
--- a packet as the slice of a state is told it that may write it
+-- a packet as the slice of a state is sent it that may write it
 abbrev pub written : SliceState → PacketIn → PacketIn
 written state packet = written_as state.miss_send_len state.buffers.given packet
 
@@ -142,7 +142,7 @@ abbrev pub port_told : List Rule → List SliceState → Option PortStatus → L
 port_told rules states None = []
 port_told rules states (Some status) = said_from (status_for rules status) 0 states
 
--- ---- what one slice may be told
+-- ---- what one slice may be sent
 
 -- what follows for one slice: messages for it, and what changes in its state
 pub record Turn : Type 0 where
@@ -168,7 +168,7 @@ turning turn = record (telling (turn_told turn) None) { changes = turn_changes t
 abbrev pub while_up : Bool → List (List ℕ) → List (List ℕ)
 while_up up messages = if up then messages else []
 
--- what follows for a slice of whose match an entry is gone
+-- what follows for a slice of whose match an entry was removed
 abbrev pub removal_turn : CallsOf → FlowRemoved → ℕ → SliceState → Turn
 removal_turn called entry slot state = record {
   slot = slot;
@@ -176,7 +176,7 @@ removal_turn called entry slot state = record {
   change = Released entry.pattern entry.priority;
 }
 
--- the slice that owns the match is told
+-- it is reported to the slice that owns the match
 abbrev pub owner_turn : (ℕ → CallsOf) → List SliceState → FlowRemoved → Option ℕ → Option Turn
 owner_turn called states entry None = None
 owner_turn called states entry (Some slot) = option_map (removal_turn (called slot) entry slot) (slice_get states slot)
@@ -207,7 +207,7 @@ error_turn called states xid error =
 abbrev pub request_seen : (ℕ → CallsOf) → List SliceState → ℕ → Option Issued
 request_seen called states xid = option_and_then (λ state. found (xid / 2 ^ 24) xid (called (xid / 2 ^ 24)).requests) (slice_get states (xid / 2 ^ 24))
 
--- what follows for a slice that is told a reply, if it is: its request is marked
+-- what follows for a slice that is sent a reply, if it is: its request is marked
 abbrev pub answer_turn : ℕ → List (List ℕ) → ℕ → Option Turn
 answer_turn slot [] number = None
 answer_turn slot (message ∷ others) number = Some (record { slot = slot; messages = message ∷ others; change = Replied number })
@@ -227,7 +227,7 @@ queues_turn called rules states xid queues =
 abbrev pub gathered_with : CallsOf → Issued → List (List ℕ) → Gathered
 gathered_with called request entries = gathered request.number (entry_calls request.asked.kind request.number entries called.collections)
 
--- what follows from a part for a slice whose request collects it: where more parts come its entries are collected, and with the last one it is told what was collected
+-- what follows from a part for a slice whose request collects it: where more parts come the entries are collected, and with the last part the slice is sent what was collected
 abbrev pub part_turn : List Rule → CallsOf → ℕ → StatsPart → List ℕ → Issued → Turn
 part_turn rules called slot part body request =
     if part.more then record { slot = slot; messages = []; change = Collected request.number request.asked.kind (concat (kept_entries rules slot part.kind body)) }
@@ -250,7 +250,7 @@ statistics_turn called rules states xid part body =
 
 -- ---- all, by what was read of a message
 
--- messages for one slice at most: of an entry that is gone, an error, or a reply
+-- messages for one slice at most: of an entry that was removed, an error, or a reply
 abbrev pub turn_for : (ℕ → CallsOf) → List Rule → List SliceState → ℕ → Result SwitchMessage Unread → Option Turn
 turn_for called rules states xid (Ok (says.FlowRemoved entry)) = removed_turn called rules states entry
 turn_for called rules states xid (Ok (says.Error error)) = error_turn called states xid error

@@ -23,7 +23,7 @@ use Rattle.switch_side.specs.declared.change.Change.TheVariants as changes
 
 -- ---- one change
 
--- an entry of this match and priority is gone
+-- an entry of this match and priority was removed
 pub record IsRemoval (items : List Item) (pattern : Pattern) (priority : ℕ) : Type 0 where
   pub entry : FlowRemoved
   pub shown : items ≡ Removed entry ∷ []
@@ -46,7 +46,7 @@ is_reply_under x (Barrier y) = y == x
 is_reply_under x (Queues y body) = y == x
 is_reply_under x item = false
 
--- a reply came for the request of this number, and the slice is told
+-- a reply came for the request of this number, and the slice is sent it
 pub record IsAnswer (s : Settings) (sight : Sight) (items : List Item) (number : ℕ) : Type 0 where
   pub x : ℕ
   pub item : Item

@@ -1,4 +1,4 @@
--- What follows from one message of a switch that has told what it is, for all slices at once (this proxy's own rule).
+-- What follows from one message of a switch that has said what it is, for all slices at once (this proxy's own rule).
 use Rattle.std.specs.Prelude.{ℕ, ◌≡◌, true, List, map, slice_get, Some}
 use Rattle.std.specs.List.{flat_map, enumerate_from}
 use Rattle.of10_ctl.specs.Frames.{is_bad}
@@ -24,7 +24,7 @@ use Rattle.switch_side.specs.Changes.{of_slot, SlotChanges}
 
 -- ---- where a message is answered
 
--- the switch has told what it is; the policy has the slices of all switches and the rules that hold on this one; and the ports are those that the switch told of
+-- the switch has said what it is; the policy has the slices of all switches and the rules that hold on this one; and the ports are those that the switch reported
 pub record Surrounds (p : PolicyView) (switch : KnownSwitch) (policy : SwitchView) (ports : List (List ℕ)) : Type 0 where
   pub opened : switch.phase ≡ Opened
   pub slices : policy.slices ≡ p.slices

@@ -119,7 +119,7 @@ fn collect(state: &mut SliceState, number: u64, kind: AskKind, entries: &[u8])
     add_all(&mut state.collections, number, kind, entries);
 }
 
-/// The slice was told what the request of the number collected.
+/// The slice was sent what the request of the number collected.
 fn finish(state: &mut SliceState, number: u64)
     ensures { IsMade (Finished number) state.old state.new }
 {

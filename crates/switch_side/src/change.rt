@@ -5,7 +5,7 @@ use xid_map::AskKind;
 /// What a message of a switch changes in the state of a slice.
 #[derive(Drop)]
 pub enum Change {
-    /// An entry is gone: its pair leaves the book.
+    /// An entry was removed: its pair leaves the book.
     Released {
         pattern: Match,
         priority: u16,
@@ -16,7 +16,7 @@ pub enum Change {
         number: u64,
         pair: Option<(Match, u16)>,
     },
-    /// The slice was told the reply to the request of this number.
+    /// The slice was sent the reply to the request of this number.
     Replied {
         number: u64,
     },
@@ -27,7 +27,7 @@ pub enum Change {
         kind: AskKind,
         entries: Bytes,
     },
-    /// The slice was told what the request of this number collected.
+    /// The slice was sent what the request of this number collected.
     Finished {
         number: u64,
     },

@@ -19,7 +19,7 @@ pub struct Dispatch {
     /// What changes in the states of slices, each with the slot of its slice, by ascending slot; of a slice at
     /// most once.
     pub changes: Vec<(u8, Change)>,
-    /// What the switch told of one of its ports, where the known ports would keep it.
+    /// What the switch reported of one of its ports, where the known ports would keep it.
     pub port: Option<PortStatus>,
     /// Whether the switch's connection ends.
     pub close: bool,
@@ -70,7 +70,7 @@ fn show_each(
 }
 
 impl Dispatch {
-    /// Messages for slices, and what the switch told of a port.
+    /// Messages for slices, and what the switch reported of a port.
     pub(crate) fn telling(
         alloc: Global,
         to_slices: Vec<(u8, Frame)>,

@@ -30,7 +30,7 @@ fn own_error(alloc: Global, asked: &Asked, error: &ErrorView<'_>) -> Result<Fram
     )
 }
 
-/// What a slice that is up is told, where it is the first error for the request.
+/// What a slice that is up is sent, where it is the first error for the request.
 fn told(
     alloc: Global,
     seen: &SeenRequest<'_>,

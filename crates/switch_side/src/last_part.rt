@@ -1,4 +1,5 @@
-//! What a slice is told with the last part of statistics: all that was collected (OpenFlow 1.0.0, section 5.3.5).
+//! What a slice is sent with the last part of statistics: all that was collected (OpenFlow 1.0.0, section
+//! 5.3.5).
 
 ghost use Rattle.std.specs.Prelude.{ℕ, ◌≡◌, ◌≤◌, true, List, length, take, Some, IfOk};
 ghost use Rattle.of10_stats.specs.declared.protocol.TheConstants.{FLOW};

@@ -1,4 +1,4 @@
-//! What follows from a message of a switch that has told what it is: what each slice is sent, what changes in
+//! What follows from a message of a switch that has said what it is: what each slice is sent, what changes in
 //! the slices' states, and what the switch is.
 #![tactic(auto)]
 

@@ -21,7 +21,7 @@ use std::alloc::{AllocError, Global};
 /// Bytes of a probe's mark.
 const MARK: u16 = 8;
 
-/// The packet as readers are told it: whole, without a number.
+/// The packet as readers are sent it: whole, without a number.
 fn unnumbered<'a>(packet: &PacketInView<'a>) -> PacketInView<'a>
     ensures value { packet_of result ≡ unnumbered (packet_of packet.now) }
     ensures size { length result.payload.now ≡ length packet.now.payload.now }
@@ -33,7 +33,7 @@ fn unnumbered<'a>(packet: &PacketInView<'a>) -> PacketInView<'a>
     }
 }
 
-/// A probe as its slice is told it: without its mark.
+/// A probe as its slice is sent it: without its mark.
 fn unmarked<'a>(packet: &PacketInView<'a>) -> PacketInView<'a>
     ensures value { packet_of result ≡ unmarked (packet_of packet.now) }
     ensures size { length result.payload.now ≤ length packet.now.payload.now }
@@ -58,7 +58,7 @@ fn wanted<'a>(state: &SliceState, packet: &PacketInView<'a>) -> &'a [u8]
     &packet.payload[..end]
 }
 
-/// The packet as its writer is told it: with a number of the writer's own, where the switch keeps it.
+/// The packet as its writer is sent it: with a number of the writer's own, where the switch keeps it.
 fn written<'a>(state: &SliceState, packet: &PacketInView<'a>) -> PacketInView<'a>
     ensures value { packet_of result ≡ written state.now (packet_of packet.now) }
     ensures size { length result.payload.now ≤ length packet.now.payload.now }

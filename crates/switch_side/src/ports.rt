@@ -85,7 +85,7 @@ fn put_for_all(
     Ok(to_slices)
 }
 
-/// What a PORT_STATUS tells, where the known ports would keep it.
+/// What a PORT_STATUS reports, where the known ports would keep it.
 fn kept(ports: &PortView, status: &PortStatus) -> Option<PortStatus>
     ensures { result ≡ kept_beside ports.now (Some status.now) }
 {

@@ -149,10 +149,10 @@ fn dispatch(
     }
 }
 
-/// What follows from one message of a switch that has told what it is, with the index of the policy's rules and
-/// one state for each of its slices. Nothing is changed here: `changes` are for `reserve` and `apply_all`, and
-/// `port` is for the known ports. A message whose length doesn't count its header ends the connection; one that
-/// isn't of version 1, isn't well formed, or says nothing to anybody is dropped.
+/// What follows from one message of a switch that has said what it is, with the index of the policy's rules
+/// and one state for each of its slices. Nothing is changed here: `changes` are for `reserve` and
+/// `apply_all`, and `port` is for the known ports. A message whose length doesn't count its header ends the
+/// connection; one that isn't of version 1, isn't well formed, or says nothing to anybody is dropped.
 pub fn react(
     alloc: Global,
     policy: &SwitchPolicy,

@@ -13,7 +13,7 @@ use of10_flow::FlowRemoved;
 use rule_index::RuleIndex;
 use std::alloc::{AllocError, Global};
 
-/// What a slice that is up is told, where it booked the entry's pair and asked to be told.
+/// What a slice that is up is sent, where it booked the entry's pair and asked for a report.
 fn told(
     alloc: Global,
     up: bool,

@@ -16,7 +16,7 @@ use of10_message::{QueuesView, queues_reply};
 use std::alloc::{AllocError, Global};
 use xid_map::{AskKind, Issued};
 
-/// What follows for a slice that is told a reply, if it is.
+/// What follows for a slice that is sent a reply, if it is.
 fn answered(
     alloc: Global,
     xid: u32,
@@ -32,7 +32,7 @@ fn answered(
     Dispatch::turning(alloc, slot, messages, Change::Replied { number })
 }
 
-/// What a slice is told of a reply to a barrier that came for its request: once, and only where it asked for
+/// What a slice is sent of a reply to a barrier that came for its request: once, and only where it asked for
 /// one.
 fn barrier_told(alloc: Global, request: &Issued) -> Result<Vec<Frame>, AllocError>
     ensures { IfOk result (λ v. v.items ≡ barrier_told (Some request.now)) }
@@ -46,7 +46,7 @@ fn barrier_told(alloc: Global, request: &Issued) -> Result<Vec<Frame>, AllocErro
     )
 }
 
-/// What a slice is told of the queues of a port: once, and only where it asked for that port's.
+/// What a slice is sent of the queues of a port: once, and only where it asked for that port's.
 fn queues_told(
     alloc: Global,
     request: &Issued,

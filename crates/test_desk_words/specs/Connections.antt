@@ -15,7 +15,7 @@ SwitchGoes = ReportFollows policy (record_told switch_down 0 [] ∷ []) (codes "
 abbrev pub BadLengthEndsTheSwitch : Type 0
 BadLengthEndsTheSwitch = ReportFollows policy (record_told switch_bytes 0 (codes "0102000400000005") ∷ []) (codes "4 0 down\nend 5\n")
 
--- alice connects before the switch has told what it is
+-- alice connects before the switch has said what it is
 abbrev pub EarlySliceIsRefused : Type 0
 EarlySliceIsRefused =
     report policy (record_told switch_up 0 [] ∷ record_told slice_up 0 [] ∷ [])

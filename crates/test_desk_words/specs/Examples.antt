@@ -53,7 +53,7 @@ policy = record { slices = slice_named (codes "alice") ∷ slice_named (codes "b
 abbrev pub record_told : ℕ → ℕ → List ℕ → Told
 record_told kind slot text = record { kind = kind; switch = 0; slot = slot; moment = 0; bytes = unhex text }
 
--- a switch with three ports and its own tells what it is, and alice and bob connect
+-- a switch with three ports and its own says what it is, and alice and bob connect
 abbrev pub opened : List Told
 opened =
     record_told switch_up 0 []

@@ -1,4 +1,4 @@
--- Worked examples of flow-mods (OpenFlow 1.0.0, section 5.3.3): what alice has the switch sent, and what she is told.
+-- Worked examples of flow-mods (OpenFlow 1.0.0, section 5.3.3): what alice has the switch sent, and what she is sent.
 use Rattle.std.specs.Prelude.{ℕ, List, [], ◌∷◌, ◌++◌, codes, Some}
 use Rattle.of10_model.specs.declared.pattern.Pattern.{Pattern}
 use Rattle.of10_model.specs.Exact.{all_free}
@@ -150,7 +150,7 @@ sent_at xid priority = codes "010e0050" ++ xid ++ to_80 ++ codes "00000000000000
 abbrev pub removed_80 : List ℕ → List ℕ
 removed_80 xid = codes "010b0058" ++ xid ++ to_80 ++ codes "0000000000000000000a00000000000000000000003c000000000000000000000000000000000000"
 
--- a second pair is refused: FLOW_MOD_FAILED, ALL_TABLES_FULL; the pair that is booked may be added again; and once the switch says that its entry is gone, of which alice is told, another is booked
+-- a second pair is refused: FLOW_MOD_FAILED, ALL_TABLES_FULL. The pair that is booked may be added again. Once the switch says that the pair's entry was removed, which is reported to alice, another is booked
 abbrev pub QuotaHolds : Type 0
 QuotaHolds = ReportFollows narrow
     (alice_sends (add_at (codes "0000002a") (codes "000a") (codes "0000"))

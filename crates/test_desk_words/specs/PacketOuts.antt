@@ -1,4 +1,4 @@
--- Worked examples of packets that the switch holds (OpenFlow 1.0.0, section 5.4.1), of packet-outs (section 5.3.6), and of probes: what alice and bob are told, and what the switch is sent.
+-- Worked examples of packets that the switch holds (OpenFlow 1.0.0, section 5.4.1), of packet-outs (section 5.3.6), and of probes: what alice and bob are sent, and what the switch is sent.
 use Rattle.std.specs.Prelude.{ℕ, List, [], ◌∷◌, ◌++◌, codes}
 use Rattle.recording.specs.Recordings.{Told, switch_bytes, slice_bytes}
 use Rattle.test_desk_words.specs.Examples.{policy, record_told, alice_sends, ReportFollows}
@@ -11,7 +11,7 @@ packet_80 = codes "00000000000200000000000108004500002800000000400600000a0000010
 abbrev pub packet_22 : List ℕ
 packet_22 = codes "00000000000200000000000108004500002800000000400600000a0000010a0000020400001600000000000000005002000000000000"
 
--- the switch hands up a packet of 54 bytes from port 1 under a number; and so it is told to a slice
+-- the switch hands up a packet of 54 bytes from port 1 under a number; and so it is sent to a slice
 abbrev pub handed_up : List ℕ → List ℕ → List ℕ
 handed_up number packet = codes "010a004800000000" ++ number ++ codes "003600010000" ++ packet
 

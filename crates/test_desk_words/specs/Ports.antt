@@ -12,7 +12,7 @@ port_policy = record {
   swaps = [];
 }
 
--- port 2 is modified: bob alone is told, without a transaction id
+-- port 2 is modified: bob alone is sent this, without a transaction id
 abbrev pub StatusReachesBob : Type 0
 StatusReachesBob =
     ReportFollows port_policy (record_told switch_bytes 0 (codes "010c0040000000090200000000000000000200000000000000000000000000000000000000000000000000000000000000000000000000000000000000000000") ∷ []) (codes "4 0 to bob 010c0040000000000200000000000000000200000000000000000000000000000000000000000000000000000000000000000000000000000000000000000000\nend 5\n")

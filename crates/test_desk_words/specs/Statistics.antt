@@ -1,4 +1,4 @@
--- Worked examples of barriers (OpenFlow 1.0.0, section 5.3.7), of questions for queues (section 5.3.4) and of statistics (section 5.3.5): what the switch is asked for alice, and what she is told.
+-- Worked examples of barriers (OpenFlow 1.0.0, section 5.3.7), of questions for queues (section 5.3.4) and of statistics (section 5.3.5): what the switch is asked for alice, and what she is sent.
 use Rattle.std.specs.Prelude.{ℕ, List, [], ◌∷◌, ◌++◌, codes}
 use Rattle.recording.specs.Recordings.{Told, switch_bytes}
 use Rattle.test_desk_words.specs.Examples.{policy, record_told, alice_sends, ReportFollows}
@@ -36,7 +36,7 @@ flow_to_2 match = codes "00600000" ++ match ++ quiet_fields ++ codes "0000000000
 abbrev pub every_flow : List ℕ
 every_flow = all_headers ++ codes "ff00ffff"
 
--- flows come in two parts, two of them hers and one bob's: she is told hers in one reply
+-- flows come in two parts, two of them hers and one bob's: she is sent hers in one reply
 abbrev pub OwnFlowsAreTold : Type 0
 OwnFlowsAreTold = ReportFollows policy
     (alice_sends (codes "011000380000002a00010000" ++ every_flow)

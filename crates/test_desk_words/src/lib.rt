@@ -38,7 +38,7 @@ pub fn message_is_refused()
     ensures ports { PortModIsRefused }
 {}
 
-/// A slice that may write packets of port 1 alone isn't told of port 2, and may not output to it.
+/// A slice that may write packets of port 1 alone isn't shown port 2, and may not output to it.
 pub fn slice_is_told_its_ports()
     ensures status { StatusReachesBob }
     ensures features { OwnPortsAreTold }
@@ -46,7 +46,7 @@ pub fn slice_is_told_its_ports()
 {}
 
 /// Without a record nothing happens; the switch's connection ends, also by a message whose length field
-/// doesn't count its header; and a slice that connects before the switch has told what it is is refused.
+/// doesn't count its header; and a slice that connects before the switch has said what it is is refused.
 pub fn connections_end()
     ensures nothing { NothingHappens }
     ensures down { SwitchGoes }
@@ -62,7 +62,7 @@ pub fn packet_reaches_its_reader()
 {}
 
 /// A flow-mod is sent on for what its slice may write of its match, and is refused where that is nothing; the
-/// first error that the switch answers to it is told to the slice.
+/// first error that the switch answers to it is sent to the slice.
 pub fn flow_mod_is_sent_on()
     ensures cut { FlowModIsCut }
     ensures refused { FlowModIsRefused }
@@ -77,7 +77,8 @@ pub fn flow_mod_stays_in_the_slice()
     ensures actions { ActionsAreHeldToTheSlice }
 {}
 
-/// A pair beyond the quota is refused until another is gone, and one that overlaps where that is asked for.
+/// A pair beyond the quota is refused until another was removed, and one that overlaps where that is asked
+/// for.
 pub fn booked_pairs_refuse()
     ensures quota { QuotaHolds }
     ensures overlap { OverlapIsRefused }
@@ -104,8 +105,8 @@ pub fn reply_comes_back()
     ensures queues { QueuesComeBack }
 {}
 
-/// Of the statistics that the switch tells in parts a slice is told its own, whole or summed, and of its one
-/// table without asking the switch.
+/// Of the statistics that the switch sends in parts a slice is sent its own, whole or summed. The slice is
+/// sent those of its one table without asking the switch.
 pub fn statistics_are_told()
     ensures flows { OwnFlowsAreTold }
     ensures sum { FlowsAreSummed }

@@ -1,4 +1,4 @@
-//! The threads of one switch's session, whose ends are told.
+//! The threads of one switch's session, whose ends are reported.
 
 ghost use Rattle.std.specs.Prelude.{IfOk};
 ghost use Rattle.std.specs.Arc.{arc_value};

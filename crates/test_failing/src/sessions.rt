@@ -20,9 +20,9 @@ use std::test::Fail;
 use std::thread;
 use turn_desk::TurnSeat;
 
-/// A switch and the controllers of alice and bob, which messages are held back, whether the gate may wait, what raises
-/// the flag on which a sink that stands still waits, what comes before what, and how the threads end: reader and writer
-/// of the switch, of alice and of bob.
+/// A switch and the controllers of alice and bob; which messages are held back, whether the gate may wait,
+/// and what raises the flag on which a sink that stands still waits. Also what comes before what, and how the
+/// threads end: reader and writer of the switch, of alice and of bob.
 struct Case {
     devices: [Device; 3],
     holds: &'static [Hold],

@@ -15,9 +15,9 @@ use std::time::Duration;
 /// How often something that is waited for is looked at, a millisecond each time.
 pub const TURNS: u32 = 10_000;
 
-/// How many bytes a device was sent, whether others than those that it is to be sent, whether it stands still, whether
-/// it may go on, whether the half of its connection that takes was dropped, and whether one of these was waited for in
-/// vain.
+/// How many bytes a device was sent, whether others than those that it is to be sent, whether it stands
+/// still, and whether it may go on. Also whether the half of its connection that takes was dropped, and
+/// whether one of these was waited for in vain.
 #[derive(Drop)]
 pub struct Heard {
     count: AtomicU64,

@@ -22,7 +22,7 @@ use std::time::Duration;
 /// What a message is held for.
 #[derive(Clone, Copy)]
 enum Until {
-    /// So many works have ended.
+    /// So many threads have ended.
     Ended(u64),
     /// The switch was sent so many bytes, and no others.
     SwitchSent(u64),
@@ -44,9 +44,9 @@ enum Name {
     LaneIsChoked,
 }
 
-/// A switch, and the controllers of alice and bob, where they are there; which messages are held back, and until when;
-/// which message lets a switch go on that stands still; whether the switch's own stream ends only with its connection;
-/// and how many bytes the switch, alice and bob are sent.
+/// A switch, and the controllers of alice and bob, where they are there. Which messages are held back, and
+/// until when; which message lets a switch go on that stands still; whether the switch's own stream ends only
+/// with its connection; and how many bytes the switch, alice and bob are sent.
 #[derive(Clone, Copy)]
 struct Case {
     name: Name,
@@ -63,7 +63,7 @@ const ALICES: Side = Side::Slice(0);
 
 const BOBS: Side = Side::Slice(1);
 
-/// How many works alice has: a reader and a writer. How many all have.
+/// How many threads alice has: a reader and a writer. How many all have.
 const ALICES_WORKS: u64 = 2;
 
 const WORKS: u64 = 6;
@@ -71,8 +71,8 @@ const WORKS: u64 = 6;
 /// All was sent of the case below.
 const ALL_IS_SENT: &[Until] = &[Until::SwitchSent(108), Until::BobSent(88)];
 
-/// There is no controller at alice's address. Bob has a question, held until her works have ended, and is then sent a
-/// packet, held until he is answered.
+/// There is no controller at alice's address. Bob has a question, held until her threads have ended, and is
+/// then sent a packet, held until he is answered.
 const ALICE_IS_NOT_THERE: Case = Case {
     name: Name::AliceIsNotThere,
     switch: Device {
@@ -140,7 +140,8 @@ const LANE_IS_CHOKED: Case = Case {
     sent: [1_114_203, 8, 16],
 };
 
-/// How many works have ended, what the switch, alice and bob were sent, and how many messages were held for all turns.
+/// How many threads have ended, what the switch, alice and bob were sent, and how many messages were held for
+/// all turns.
 #[derive(Drop)]
 struct Seen {
     ended: Arc<AtomicU64, Global>,

@@ -7,7 +7,7 @@ use std::alloc::Global;
 use std::net::{Net, TcpListener, TcpStream};
 use std::sync::Arc;
 
-// A work that puts one byte where others see it.
+// The work of a thread, which puts one byte where others see it.
 #[derive(Drop)]
 pub struct Note {
     pub bytes: Arc<SharedBytes, Global>,

@@ -25,8 +25,8 @@ pub enum Form {
 }
 
 /// The pieces of the digits of some bytes; how many bytes there are at least, with zeros for those that have no
-/// digits here; and the pieces of the words for them, which end with what is written, where other bytes than
-/// these are.
+/// digits here; and the pieces of the words for them. The words end with what is written, where that is other
+/// bytes than these.
 pub type Row = (&'static [&'static str], usize, &'static [&'static str]);
 
 /// Fails at the first row of the table that has other words.

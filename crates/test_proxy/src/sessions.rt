@@ -20,7 +20,7 @@ use samples::{policy, rule, tcp};
 use std::alloc::{AllocError, Global};
 use std::test::Fail;
 
-/// The datapath id that the switch tells.
+/// The datapath id that the switch says.
 const DATAPATH: u64 = 0xa1;
 
 /// The rows for which `opened` stands.

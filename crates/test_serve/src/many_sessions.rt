@@ -20,10 +20,10 @@ const SESSIONS: usize = 16;
 
 const LATER: usize = 2;
 
-/// How many works the first sessions have: a reader and a writer for the switch, for alice and for bob.
+/// How many threads the first sessions have: a reader and a writer for the switch, for alice and for bob.
 const WORKS: u64 = 96;
 
-/// How many works all sessions have: there is none for the one connection too many.
+/// How many threads all sessions have: there is none for the one connection too many.
 const WORKS_OF_ALL: u64 = 108;
 
 /// How often what is waited for is looked at again.
@@ -64,7 +64,8 @@ impl Gate for Held {
     }
 }
 
-/// Wires of which each `accept` behind the first ones is counted, and waits until all works of these have ended.
+/// Wires of which each `accept` behind the first ones is counted, and waits until all threads of these have
+/// ended.
 #[derive(Drop)]
 struct Paced<N: Wires> {
     wires: N,

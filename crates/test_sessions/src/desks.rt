@@ -31,9 +31,9 @@ pub const TO_DISMISSED: &str = "010000080000000001030008000000050101000c00000000
 #[derive(Clone, Copy)]
 pub enum Before {
     Nothing,
-    /// It came and told what it is.
+    /// It connected and said what it is.
     Opened,
-    /// It went after that.
+    /// It disconnected after that.
     Ended,
 }
 
@@ -65,7 +65,7 @@ fn step<R: Wait>(
     )
 }
 
-// Whether the switch's connection goes on when it comes and tells what it is.
+// Whether the switch's connection goes on when the switch connects and says what it is.
 fn open<R: Wait>(
     rt: &R,
     alloc: Global,

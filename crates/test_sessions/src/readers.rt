@@ -30,7 +30,7 @@ fn messages_are_asked_whatever_the_pieces_are(rt: HostRuntime) -> Result<(), Fai
     play(&rt, rt.alloc(), &DISMISSED)
 }
 
-/// The switch tells what it is, and breaks off within another message.
+/// The switch says what it is, and breaks off within another message.
 const CLOSED: Connection = Connection {
     before: Before::Nothing,
     side: Side::Switch,

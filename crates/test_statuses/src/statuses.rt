@@ -17,8 +17,9 @@ const USAGE: &str = "usage: flowvisor check POLICY / replay POLICY RECORDING / g
 serve POLICY LISTEN COUNT / flatten OUTER NAME INNER\n";
 
 /// A call of `serve`: its words; which reads of files, which calls of `listen` and `accept`, and which starts of
-/// threads fail, by their numbers from 0. And what comes of it: the status and its line, how many works had run to
-/// their ends when it answered, how many switches were listened to, and how many calls for the place had failed.
+/// threads fail, by their numbers from 0. And what comes of it: the status and its line, how many threads had
+/// run to their ends when it answered, how many switches were listened to, and how many calls for the place
+/// had failed.
 #[derive(Clone, Copy)]
 struct Case {
     words: &'static [&'static str],
@@ -237,7 +238,7 @@ impl CaseCall {
         Ok(CaseCall { call, heard })
     }
 
-    // It ended so, by when so many works had run to their ends.
+    // It ended so, by when so many threads had run to their ends.
     fn expect(&self, case: &Case, status: u8, works: u64) -> Result<(), Fail> {
         let words = case.words;
         expect_eq!(status, case.status, ("status", words));

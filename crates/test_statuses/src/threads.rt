@@ -1,4 +1,4 @@
-//! Works on threads, of which those that have ended are counted.
+//! Threads, of which those that have ended are counted.
 
 use fv_live::{Host, Work};
 use std::alloc::Global;
@@ -8,11 +8,11 @@ use std::sync::atomic::{AtomicU64, Ordering};
 use std::thread::{self, JoinHandle};
 use std::time::Duration;
 
-/// How long a thread goes on behind its work, in milliseconds, before it counts it: who doesn't wait for the thread has
-/// gone on by then.
+/// How long a thread goes on behind its work, in milliseconds, before it counts itself: who doesn't wait for
+/// the thread has gone on by then.
 const BEHIND: u64 = 20;
 
-/// The thread that runs the work, and then counts it.
+/// The thread that runs the work, and then counts itself.
 pub fn begin<
     R: Host + Net<Listener = TcpListener, Stream = TcpStream> + Send + 'static,
     W: Work + Send + 'static,

@@ -30,7 +30,7 @@ use Rattle.trace_audit.specs.Standing.{heard_in, bytes_at, header_at, IsFrameAt,
 abbrev datapath_of : Option Told → Option ℕ
 datapath_of told = option_map (λ features. features.datapath) told
 
--- ---- how far the connection is, and what the switch told
+-- ---- how far the connection is, and what the switch said
 
 -- what counts of a message changes what the message does
 record IsAsHeard (r : Result SwitchMessage Unread) : Type 0 where

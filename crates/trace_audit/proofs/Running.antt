@@ -44,7 +44,7 @@ auditing_next p file all at count switches more s =
 abbrev told_of : List ℕ → Item → Told
 told_of file item = told_by item (bytes_carried file item)
 
--- what the first of some records tells first
+-- what the first of some records says first
 first_is : (p : PolicyView) (file : List ℕ) (before : List Told) (item : Item) (others : List Item) (w : Option Why) → w ≡ record_why p before (told_of file item)
     → first_wrong p file before (item ∷ others) ≡ option_or (option_map (λ (x : Why). (item.from - 16, x)) w) (first_wrong p file (told_of file item ∷ before) others)
 first_is p file before item others w is = ap (λ (o : Option Why). option_or (option_map (λ (x : Why). (item.from - 16, x)) o) (first_wrong p file (told_of file item ∷ before) others)) (sym is)

@@ -46,7 +46,7 @@ module _ (policy : PolicyView) (accepted : IsPolicy policy.slices policy.rules) 
   read_passed features opened (Ok (said.QueueGetConfigRequest queues)) is none = absurd (cc)
   read_passed features opened (Err fault) is none = absurd (cc)
 
-  -- what is wrong where the switch told this of itself
+  -- what is wrong where the switch said this of itself
   abbrev why_told : Option Features → Option Why
   why_told told = elim told [ None ↦ Some why.Kind | Some features ↦ read_why (buffer_header h) (rules_on features.datapath policy.rules) slot (read_controller message) ]
 

@@ -1,4 +1,4 @@
--- What a trace tells of a session of a switch: all that came since it last connected, and what was sent to it for slices. All of this is the proxy's own rule. Records before another have the newest first.
+-- What a trace says of a session of a switch: all that came since it last connected, and what was sent to it for slices. All of this is the proxy's own rule. Records before another have the newest first.
 use Rattle.std.specs.Prelude.{ℕ, ◌≡◌, ◌==◌, ◌||◌, not, if◌then◌else◌, List, [], ◌∷◌, ◌++◌, reverse}
 use Rattle.recording.specs.Recordings.{Told, switch_up, switch_bytes, sent_bytes}
 use Rattle.desk_words.specs.declared.event.Event.{Event}

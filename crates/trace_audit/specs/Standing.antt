@@ -73,7 +73,7 @@ phase_heard Begun (Features datapath) = Opened
 phase_heard Opened Ended = Gone
 phase_heard phase heard = phase
 
--- the datapath id that was told first
+-- the datapath id that was said first
 abbrev pub first_told : Option ℕ → ℕ → Option ℕ
 first_told None datapath = Some datapath
 first_told (Some known) datapath = Some known

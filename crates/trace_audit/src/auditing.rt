@@ -82,11 +82,12 @@ fn audit_accepted(alloc: Global, policy: &Policy, file: &[u8]) -> Result<u32, Au
 }
 
 /// How many messages a trace has that were sent for slices, where each is one that the slice may have sent by the
-/// policy, as far as a switch's session tells; else the first that isn't. The file is accepted whole before a message
-/// is judged. Of each flow-mod then the slice writes each header of its match, its outputs go to the slice's ports,
-/// but for a delete's, which do nothing, and it leaves every flow table treating other headers as before. Of each
-/// packet-out the packet is one that the slice writes, or one that bears its mark, and it goes to the slice's ports. A
-/// packet that is named by its number is the last that the switch gave under it since it connected.
+/// policy, as far as a switch's session says; else the first that isn't. The file is accepted whole before a
+/// message is judged. Of each flow-mod then the slice writes each header of its match, its outputs go to the
+/// slice's ports, but for a delete's, which do nothing, and it leaves every flow table treating other headers
+/// as before. Of each packet-out the packet is one that the slice writes, or one that bears its mark, and it
+/// goes to the slice's ports. A packet that is named by its number is the last that the switch gave under it
+/// since it connected.
 pub fn audit(alloc: Global, policy: &Policy, trace: &[u8]) -> Result<u32, AuditFault>
     requires short { length trace.now < 2 ^ 32 }
     ensures exact { GivesAudit result (audit_of policy.now trace.now) }

@@ -16,7 +16,7 @@ use of10_message::{SwitchMessageView, Unread, read_switch};
 pub(crate) enum Heard {
     /// It ends the connection.
     Ended,
-    /// It tells this datapath id (OpenFlow 1.0.0, section 5.3.1).
+    /// It says this datapath id (OpenFlow 1.0.0, section 5.3.1).
     Features(u64),
     /// It hands up a packet, which the switch keeps under this number if there is one (section 5.4.1).
     Packet(Option<u32>),

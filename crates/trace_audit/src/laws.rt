@@ -25,8 +25,8 @@ pub fn passed_packet_outs_send_own_packets()
 {}
 
 /// A switch reads a message with which nothing is wrong, after the events of its session, as a flow-mod or a
-/// packet-out of which these hold by the rules of the policy for the datapath id that it told, and by the last
-/// packet-in under the message's number.
+/// packet-out of which these hold. They hold by the rules of the policy for the datapath id that the switch
+/// said, and by the last packet-in under the message's number.
 pub fn passed_messages_keep_their_slice()
     ensures { (policy : PolicyView) → IsPolicy policy.slices policy.rules → (h : List Timed) (slot : ℕ) (message : List ℕ) → IsFrame message → message_why policy h slot message ≡ None → KeepsSlice policy h slot message }
 {}

@@ -17,8 +17,9 @@ use of10_ctl::Frame;
 use of10_message::{FromController, read_controller};
 use std::alloc::{AllocError, Global};
 
-/// What is wrong with a message that was sent for the slice at a slot, by the rules of the switch, which has told what
-/// it is: with its type and form, or as a flow-mod or a packet-out. The file is the trace in which the session stands.
+/// What is wrong with a message that was sent for the slice at a slot, by the rules of the switch, which has
+/// said what it is: with its type and form, or as a flow-mod or a packet-out. The file is the trace in which
+/// the session stands.
 pub fn message_why(
     alloc: Global,
     policy: &SwitchPolicy,

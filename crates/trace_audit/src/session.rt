@@ -1,4 +1,4 @@
-//! A session of a switch, as the records of a trace tell of it.
+//! A session of a switch, as the records of a trace show it.
 
 ghost use Rattle.std.specs.Prelude.{ℕ, ◌≡◌, ◌+◌, ◌≤◌, List, [], ◌∷◌, length, IfOk, IfSome, OnOk};
 ghost use Rattle.std.specs.Ordering.{nat_cmp};
@@ -22,7 +22,7 @@ use std::collections::BTreeMap;
 #[derive(Drop)]
 pub struct Session {
     phase: Phase,
-    /// The datapath id that it told first.
+    /// The datapath id that it said first.
     pub datapath: Option<u64>,
     /// For each number under which it keeps a packet, the place of the record of the last packet-in that gave it.
     packets: BTreeMap<u32, u32>,

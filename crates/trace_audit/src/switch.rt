@@ -22,7 +22,7 @@ use recording::{Item, SENT_BYTES, SWITCH_BYTES, SWITCH_UP};
 use std::alloc::{AllocError, Global};
 use std::mem;
 
-/// The rules of a switch that told a datapath id.
+/// The rules of a switch that said a datapath id.
 #[derive(Drop)]
 pub(crate) struct SwitchRules {
     datapath: u64,

@@ -2,8 +2,9 @@
 /// are looked for.
 #[derive(Clone, Copy, Debug, PartialEq, Eq)]
 pub enum Why {
-    /// The switch hasn't told what it is, or the message is neither a well-formed flow-mod, of a command of the
-    /// standard and without the flag EMERG, nor a well-formed packet-out (OpenFlow 1.0.0, sections 5.3.3 and 5.3.6).
+    /// The switch hasn't said what it is, or the message is neither a well-formed flow-mod, of a command of
+    /// the standard and without the flag EMERG, nor a well-formed packet-out (OpenFlow 1.0.0, sections 5.3.3
+    /// and 5.3.6).
     Kind,
     /// No single rule lets the slice write the flow-mod's match, or the packet that the packet-out carries; or the
     /// packet counts as received by a port that isn't the slice's.

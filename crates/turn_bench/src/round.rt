@@ -10,7 +10,7 @@ use std::sync::{Arc, Barrier, Mutex, Wait};
 use std::thread::{self, JoinHandle, Threads};
 use std::time::{Duration, Instant};
 
-/// How threads are told to begin and to end.
+/// The signals for threads to begin and to end.
 #[derive(Drop)]
 struct Signals {
     begin: Barrier,

@@ -142,7 +142,7 @@ module _ {O P R : Type 0} where
   Known None = Unit {0}
   Known (Some m) = GoesOn m.number m.seen m.mine × StartsWith m.seen m.other × (m.left + length m.seen ≤ 2 ^ 63)
 
-  -- a load tells this, and changes nothing
+  -- a load shows this, and changes nothing
   abbrev pub Learned : Step (Option O) → Me (Option O) (Option (Member O P R)) → ℕ → Me (Option O) (Option (Member O P R)) → Type 0
   Learned s me found you = (you ≡ me) × Known me.0
 
@@ -184,7 +184,7 @@ module _ {O P R : Type 0} where
     pub legal : Runs acts m.first log object
     pub size : length log ≡ t
 
-  -- what a look tells who waits: it has the turn where it found its ticket, else nothing changed
+  -- what a look shows to who waits: it has the turn where it found its ticket, else nothing changed
   abbrev pub LookedAt : (O → P → R → O → Type 0) → Stage O → Member O P R → Me (Option O) (Option (Member O P R)) → ℕ → Me (Option O) (Option (Member O P R)) → Type 0
   LookedAt acts Idle m me found you = Unit {0}
   LookedAt acts (Waits t) m me found you = MatchBool (found == t) (HasTurn acts t m you) (you ≡ me)
@@ -202,7 +202,7 @@ module _ {O P R : Type 0} where
   passed_view op reply None = None
   passed_view op reply (Some m) = Some (staged m m.left Idle (m.seen ++ entry m.number op reply ∷ []))
 
-  -- what a pass tells, where the caller said what was asked and answered
+  -- what a pass shows, where the caller said what was asked and answered
   abbrev pub Passed : Option P → Option R → Step (Option O) → Me (Option O) (Option (Member O P R)) → ℕ → Me (Option O) (Option (Member O P R)) → Type 0
   Passed (Some op) (Some reply) s me found you = you ≡ (passed_view op reply me.0, [])
   Passed _ _ s me found you = Unit {0}

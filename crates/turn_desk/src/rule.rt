@@ -1,4 +1,4 @@
-//! The rule of the lock, and what its steps tell.
+//! The rule of the lock, and what its steps show.
 
 use crate::object::Object;
 use crate::view::Member;

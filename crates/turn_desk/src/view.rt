@@ -16,9 +16,10 @@ pub enum Stage<O> {
     Holds(u64, O),
 }
 
-// The first object; the seat's number, and the distance of the numbers `number + stride`, `number + 2 * stride` and so
-// on, which it may give to seats that are split off; the calls that are left; the list that it has seen, a beginning
-// of it that has all its own calls, and the list of the seat that it met last.
+// The first object, and the seat's number. Then the distance of the numbers `number + stride`,
+// `number + 2 * stride` and so on, which the seat may give to seats that are split off. Then the calls that
+// are left, the list that the seat has seen, a beginning of that list that has all the seat's own calls, and
+// the list of the seat that it met last.
 pub struct Member<O, P, R> {
     pub first: O,
     pub number: u64,

@@ -1,4 +1,4 @@
--- Which moments count for a slice's rate.
+-- Which timestamps count for a slice's rate.
 use Rattle.std.proofs.Common.{◌≡◌, ◌≤◌, ◌↔◌, ◌&&◌, ℕ, Bool, true, false, IsTrue, if◌then◌else◌, List, [], ◌∷◌, max, refl, sym, ap, subst, ◌∙◌, arith}
 use Rattle.rate_bucket.specs.Rates.{latest as greatest, Conforms, is_conforming, accepted, is_accepted}
 use Rattle.rate_bucket.proofs.Levels.{conforms}
@@ -16,7 +16,7 @@ questions-more : (s : Settings) (item : Item) (view : List Item)
 questions-more s item view =
     ap (λ (items : List Item). if asks_rate item items then latest_moment (item ∷ items) ∷ questions (past_of s view) else questions (past_of s view)) (view_in-played (answer s) view)
 
--- none has a later moment than the greatest of the messages
+-- none has a later timestamp than the greatest of the messages
 within_more : (asks : Bool) (t before : ℕ) (asked : List ℕ) → before ≤ t → greatest asked ≤ before → greatest (if asks then t ∷ asked else asked) ≤ t
 within_more true t before asked later within = omega (arith, later, within)
 within_more false t before asked later within = omega (arith, later, within)
@@ -43,7 +43,7 @@ asked_within s (item ∷ view) =
     subst (λ (asked : List ℕ). greatest asked ≤ latest_moment (item ∷ view)) (sym (questions-more s item view))
     (within_more (asks_rate item view) (latest_moment (item ∷ view)) (latest_moment view) (questions (past_of s view)) (latest_more item view) (asked_within s view))
 
--- so each counts with its own moment
+-- so each counts with its own timestamp
 accepted_at : (rate burst t : ℕ) (asked moments : List ℕ) → greatest asked ≤ t → accepted rate burst asked ≡ moments → is_accepted rate burst asked t ≡ is_conforming rate burst moments t
 unfolding is_accepted
 accepted_at rate burst t asked moments within is =

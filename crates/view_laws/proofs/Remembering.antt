@@ -143,7 +143,7 @@ error_more slot x y calls r h = elim (eqb_tells (y % 16777216) (x % 16777216)) [
 
 -- ---- a reply more
 
--- so it is with a reply that the slice is told of
+-- so it is with a reply that the slice is sent
 reply_other : (slot x y : ℕ) (calls : List RequestCall) (a : Answer) (told : Bool) (found_one : Option Issued) (r : Issued) → is_any a.to_slice ≡ told → found slot (physical_of slot y) calls ≡ found_one → (y % 16777216 ≢ x % 16777216)
     → IsFoundRequest slot (physical_of slot x) calls r → IsFoundRequest slot (physical_of slot x) (reply_marks a found_one ++ calls) r
 reply_other slot x y calls a told None r any is apart h = h

@@ -1,4 +1,4 @@
--- What a slice is told with the last part of statistics.
+-- What a slice is sent with the last part of statistics.
 use Rattle.std.proofs.Common.{◌≡◌, ℕ, ◌&&◌, Bool, true, false, if◌then◌else◌, List, [], ◌∷◌, ◌++◌, refl, sym, ap, subst, ◌∙◌, true≢false, inl, inr, Option, Some, None}
 use Rattle.std.specs.List.{list_any}
 use Rattle.std.proofs.lemmas.Bool.{cases_Bool, and_parts, or_parts, eq-eqb, eqb-true}
@@ -66,7 +66,7 @@ remembered_up s view x request h =
     (stays_up (is_dismissing h.message) (is_up h.earlier) (request_goes_on s h.earlier h.message h.moment h.asks)
     (up_by_answer (is_up h.earlier) (message_answer s h.earlier (past_of s h.earlier) h.moment h.message) h.asks)))
 
--- ---- what it is told
+-- ---- what it is sent
 
 told_up : (up : Bool) (messages : List (List ℕ)) → up ≡ true → (if up then told messages else no_answer).to_slice ≡ messages
 told_up up messages is = rw is refl

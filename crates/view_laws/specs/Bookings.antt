@@ -54,7 +54,7 @@ abbrev pub ItemBooks : Settings → Pattern → ℕ → Item → List Item → T
 ItemBooks s pattern priority (Msg message moment) view = (m : FlowMod) × IsBookedBy s pattern priority m message moment view
 ItemBooks s pattern priority item view = ⊥
 
--- an item after a view releases the pair: its entry is gone, or an error names it, and the request that is remembered for that is the one that booked it first
+-- an item after a view releases the pair: its entry was removed, or an error names it, and the request that is remembered for that is the one that booked it first
 abbrev pub ItemReleases : Settings → Pattern → ℕ → Item → List Item → Type 0
 ItemReleases s pattern priority (Removed entry) view = (entry.pattern ≡ pattern) × (entry.priority ≡ priority)
 ItemReleases s pattern priority (Fault x class code (Some pair)) view =
@@ -63,7 +63,7 @@ ItemReleases s pattern priority item view = ⊥
 
 -- ---- what is booked
 
--- of the items that book or release the pair the last one books it, and it asks so, by SEND_FLOW_REM, to be told of its removal
+-- of the items that book or release the pair the last one books it, and it asks so, by SEND_FLOW_REM, for a report of the removal
 pub record IsLastBookedIn (s : Settings) (pattern : Pattern) (priority : ℕ) (wish : Bool) (view : List Item) : Type 0 where
   pub later : List Item
   pub message : List ℕ

@@ -25,7 +25,7 @@ Collects s number view = IsTrue (is_among number (collecting_after s view))
 
 -- ---- what begins to collect, and what ends that
 
--- a message after a view is a request for statistics; those of tables are told at once, and are no requests
+-- a message after a view is a request for statistics; those of tables are answered at once, and are no requests
 pub record IsStatistics (s : Settings) (message : List ℕ) (moment : ℕ) (view : List Item) : Type 0 where
   pub request : StatsRequest
   pub read : message_read s message ≡ Ok (said.StatsRequest request)
@@ -41,7 +41,7 @@ pub record IsFirstOfEight (s : Settings) (number : ℕ) (view : List Item) : Typ
   pub eight : length (collecting_after s view) ≡ 8
   pub is_first : (other : ℕ) → Collects s other view → number ≤ other
 
--- an item after a view ends what a request collects: it is forgotten; an error comes for it; the slice is told of the last part of its reply; or another request for statistics is made while eight collect, of which it was made first
+-- an item after a view ends what a request collects. The request is forgotten, or an error comes for it. Or the last part of its reply comes, and the slice is sent what was collected. Or another request for statistics is made while eight collect, of which this one was made first
 abbrev pub ItemEndsCollecting : Settings → ℕ → Item → List Item → Type 0
 ItemEndsCollecting s number Up view = Unit {0}
 ItemEndsCollecting s number Down view = Unit {0}

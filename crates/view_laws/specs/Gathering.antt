@@ -1,4 +1,4 @@
--- What a request for statistics has gathered, and what the slice is told of it, in words of its view. Views have the newest item first, and entries stand here with the oldest first. All of this is this proxy's own rule.
+-- What a request for statistics has gathered, and what the slice is sent of it, in words of its view. Views have the newest item first, and entries stand here with the oldest first. All of this is this proxy's own rule.
 use Rattle.std.specs.Prelude.{ℕ, ◌≡◌, ◌≤◌, ◌<◌, ◌%◌, ◌^◌, ◌==◌, ◌&&◌, Bool, false, if◌then◌else◌, List, [], ◌∷◌, ◌++◌, length, take, sum_by, Some}
 use Rattle.std.specs.List.{concat}
 use Rattle.std.specs.Option.{option_map_or}
@@ -56,7 +56,7 @@ IsGatheredOf kinds.Aggregate entries g =
     × (g.flows ≡ length entries % 2 ^ 32)
 IsGatheredOf asked entries g = IsLongestPrefix entries g.entries
 
--- ---- what the slice is told
+-- ---- what the slice is sent
 
 -- after a view this request is remembered for the low 24 bits of a transaction id, it collects, and it was sent as one for a type of statistics
 abbrev pub CollectsFor : Settings → ℕ → ℕ → Issued → List Item → Type 0

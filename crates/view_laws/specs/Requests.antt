@@ -42,7 +42,7 @@ abbrev pub is_fault_for : ℕ → Item → Bool
 is_fault_for x (Fault other class code pair) = other % 2 ^ 24 == x % 2 ^ 24
 is_fault_for x item = false
 
--- an item under these low 24 bits comes after a view, and the slice is told something of it
+-- an item under these low 24 bits comes after a view, and the slice is sent something for it
 abbrev pub is_told_under : Settings → ℕ → List Item → ℕ → Item → Bool
 is_told_under s x view other item = other % 2 ^ 24 == x % 2 ^ 24 && is_any (answer_to s view item).to_slice
 
@@ -58,7 +58,7 @@ abbrev pub is_replied : Settings → ℕ → List Item → List Item → Bool
 is_replied s x [] earlier = false
 is_replied s x (item ∷ later) earlier = is_reply_for s x (later ++ earlier) item || is_replied s x later earlier
 
--- the request is a message of the view. Its number is how many requests came before it, and has these low 24 bits; no later item forgets, and it is among the last 4,096 requests. What is remembered is what the message asked; that it failed, where a later item is an error under these bits; and that it is done, where the slice was told of a later reply under them
+-- the request is a message of the view. Its number is how many requests came before it, and has these low 24 bits; no later item forgets, and it is among the last 4,096 requests. What is remembered is what the message asked; that it failed, where a later item is an error under these bits; and that it is done, where the slice was sent a later reply under them
 pub record IsRemembered (s : Settings) (view : List Item) (x : ℕ) (request : Issued) : Type 0 where
   pub later : List Item
   pub message : List ℕ

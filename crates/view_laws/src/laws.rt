@@ -41,31 +41,33 @@ pub fn requests_are_numbered()
 
 /// The request that is remembered for the low 24 bits of a transaction id is the one of the last 4,096 whose
 /// number has these bits, where no item since forgets. It has failed exactly where an error came for it since,
-/// and it is done exactly where since then the slice was told of a reply for it.
+/// and it is done exactly where since then the slice was sent a reply for it.
 pub fn request_is_remembered_among_the_last()
     ensures { (s : Settings) (view : List Item) (x : ℕ) (request : Issued) → (remembered_for s view x ≡ Some request) ↔ IsRemembered s view x request }
 {}
 
-/// A request for statistics collects exactly as long as no later item ended that: it was forgotten, an error
-/// came for it, the slice was told of the last part of its reply, or another was made while eight collected, of
-/// which it was the first.
+/// A request for statistics collects exactly as long as no later item ended that. Such an item says that the
+/// request was forgotten, that an error came for it, or that the last part of its reply came and the slice
+/// was sent what was collected. Or the item is another request that was made while eight collected, of which
+/// this one was the first.
 pub fn request_collects_until_an_item_ends_it()
     ensures { (s : Settings) (view : List Item) (number : ℕ) → Collects s number view ↔ IsCollectingIn s number view }
 {}
 
 /// What a request that collects has gathered is of the entries that came for it, of the type of statistics that
-/// was sent for what it asked: for a sum of flows the sums over all of them, and else the longest prefix of them
-/// within 524,288 bytes. An entry comes for the request that is remembered for its transaction id, and so none
-/// comes for a request before that is made.
+/// was sent for what it asked. For a sum of flows it is the sums over all of these entries, and else their
+/// longest prefix within 524,288 bytes. An entry comes for the request that is remembered for its transaction
+/// id, and so none comes for a request before that is made.
 pub fn request_gathers_what_comes_for_it()
     ensures gathered { (s : Settings) (view : List Item) (number : ℕ) (made : IsCollectingIn s number view) → let asked = kind_asked (message_read s made.message) in IsGatheredOf asked (entries_for s number asked view) (gathered_after s number view) }
     ensures comes { (s : Settings) (x number : ℕ) (view : List Item) → IsTrue (is_for s x number view) ↔ IsFor s x number view }
     ensures since { (s : Settings) (view : List Item) (number : ℕ) (asked : AskKind) → next_number s view ≤ number → entries_for s number asked view ≡ [] }
 {}
 
-/// With the last part of statistics of a type the slice is told exactly the replies over the entries that came
-/// for the request, where the one that is remembered for the transaction id collects and was sent for that type;
-/// they are under the slice's own transaction id. Else it is told nothing.
+/// With the last part of statistics of a type the slice is sent exactly the replies over the entries that
+/// came for the request. This holds where the request that is remembered for the transaction id collects and
+/// was sent for that type; else the slice is sent nothing. The replies are under the slice's own transaction
+/// id.
 pub fn slice_is_told_what_was_gathered()
     ensures told { (s : Settings) (view : List Item) (x kind : ℕ) (request : Issued) → CollectsFor s x kind request view → AreRepliesOver request.asked.kind (entries_for s request.number request.asked.kind view) request.asked.xid (answer_to s view (Last x kind)).to_slice }
     ensures nothing { (s : Settings) (view : List Item) (x kind : ℕ) → ((request : Issued) → CollectsFor s x kind request view → ⊥) → (answer_to s view (Last x kind)).to_slice ≡ [] }
@@ -76,24 +78,25 @@ pub fn pair_is_booked_by_the_last_item()
     ensures { (s : Settings) (view : List Item) (pattern : Pattern) (priority : ℕ) → IsNormal pattern → IsBooked s pattern priority view ↔ ((wish : Bool) × IsLastBookedIn s pattern priority wish view) }
 {}
 
-/// A booked pair asks to be told of its removal as the last item asked that booked it, and it is of the
+/// A booked pair asks for a report of its removal as the last item asked that booked it, and it is of the
 /// request that booked it first since it was last released.
 pub fn booked_pair_is_as_its_items_say()
     ensures asked { (s : Settings) (view : List Item) (pattern : Pattern) (priority : ℕ) (b : Booked) → IsNormal pattern → booking_after s pattern priority view ≡ Some b → IsLastBookedIn s pattern priority b.asked view }
     ensures number { (s : Settings) (view : List Item) (pattern : Pattern) (priority : ℕ) (b : Booked) → IsNormal pattern → booking_after s pattern priority view ≡ Some b → IsFirstBookedIn s pattern priority b.number view }
 {}
 
-/// A slice holds a packet exactly where it was handed up to it as its writer and the switch had buffered it, it
-/// is among the last 256 of these, no item since then forgets, the switch didn't use its number for another, and
-/// no message of the slice used it. The one that is found under a number is the held one whose ordinal has
-/// these low 24 bits.
+/// A slice holds a packet exactly where the packet was handed up to the slice as the packet's writer, the
+/// switch had buffered it, and no later item ended that. The packet is among the last 256 of these. Since
+/// then no item forgets, the switch didn't use its number for another packet, and no message of the slice
+/// used it. The one that is found under a number is the held one whose ordinal has these low 24 bits.
 pub fn packet_is_held_until_an_item_ends_it()
     ensures held { (s : Settings) (view : List Item) (held : HeldPacket) → Contains (held_in s view) held ↔ IsHeldIn s view held }
     ensures number { (s : Settings) (view : List Item) (number : ℕ) (held : HeldPacket) → (held_at s view number ≡ Some held) ↔ (IsHeldIn s view held × (held.ordinal % 2 ^ 24 ≡ number)) }
 {}
 
-/// The moments that count for the rate are those of the messages that passed it, each the greatest moment up
-/// to it: one that was refused doesn't count. A message keeps the rate where its moment conforms with them.
+/// The timestamps that count for the rate are those of the messages that passed it, each the greatest
+/// timestamp up to its message: one that was refused doesn't count. A message keeps the rate where its
+/// timestamp conforms with them.
 pub fn moments_count_where_messages_pass()
     ensures count { (s : Settings) (view : List Item) → accepted s.rate s.burst (questions (past_of s view)) ≡ counted_moments s view }
     ensures keeps { (s : Settings) (view : List Item) (message : List ℕ) (moment : ℕ) → IsTrue (keeps_rate s view (past_of s view) moment) ↔ Conforms s.rate s.burst (counted_moments s view) (latest_moment (Msg message moment ∷ view)) }

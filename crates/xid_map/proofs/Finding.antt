@@ -26,7 +26,7 @@ told_more b call later sought apart h = (λ e. Contains-append_right (call ∷ [
 pub told_here : (call : RequestCall) (later : List RequestCall) → IsTrue true ↔ Contains (call ∷ later) call
 told_here call later = (λ e. (zero, omega arith, refl), λ c. refl)
 
--- a mark tells of the request of its number
+-- a mark is of the request of its number
 told_marked : (mark : ℕ → RequestCall) (number other : ℕ) (later : List RequestCall) (b : Bool) → (mark other ≡ mark number → number ≡ other) → IsTrue b ↔ Contains later (mark number)
     → IsTrue (number == other || b) ↔ Contains (mark other ∷ later) (mark number)
 told_marked mark number other later b same h = elim (eqb_tells number other) [

@@ -38,7 +38,7 @@ Nowhere-position_or_len number (x ∷ xs) past = elim (eqb_tells x.gathered.numb
       (other.1, Nowhere-position_or_len number xs (omega (arith, rw more at past)))
 ]
 
--- what `position` tells
+-- what `position` says
 pub StandsAt-position : (number k : ℕ) (xs : List Collected) → Some k ≡ position (λ c. c.gathered.number == number) xs → StandsAt number k xs
 StandsAt-position number k xs e =
     let n : ℕ = position_or_len (is_of number) xs in

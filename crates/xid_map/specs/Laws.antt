@@ -4,7 +4,7 @@ use Rattle.xid_map.specs.declared.asked.Issued.{Issued}
 use Rattle.xid_map.specs.Requests.{RequestCall, Issue, MarkError, MarkDone, Forget, issued, physical_of}
 use Rattle.xid_map.specs.Collections.{CollectionCall, Start, Add, Sum, Finish, EndAll, is_among, collecting, since}
 
--- the request was issued, its number is how many were issued before it, and the switch sees it under this transaction id; since then nothing was forgotten, fewer than 4,096 others were issued, and its marks are those that were set
+-- the request was issued, its number is how many were issued before it, and the switch sees it under this transaction id. Since then nothing was forgotten, fewer than 4,096 others were issued, and its marks are those that were set
 pub record IsFoundRequest (slot physical : ℕ) (calls : List RequestCall) (request : Issued) : Type 0 where
   pub later : List RequestCall
   pub earlier : List RequestCall

@@ -49,7 +49,7 @@ fn the_first_fault_is_answered(rt: HostRuntime) -> Result<(), Fail> {
     expect_read(rt.alloc(), Form::Actions, TWO_FAULTS)
 }
 
-/// Faults, with the class and the code of the error that tells of each.
+/// Faults, with the class and the code of the error that reports each.
 const CODES: &[(WireFault, (u16, u16))] = &[
     (WireFault::Length(7), (1, 6)),
     (WireFault::StatKind(6), (1, 2)),

@@ -1,4 +1,4 @@
-//! Ports, and the two messages that tell of them.
+//! Ports, and the two messages that describe them.
 
 use crate::readings::{Form, Row, expect_read};
 use expectations::expect_eq;

@@ -117,13 +117,14 @@ fn add(book: &mut FlowBook, sent: &FlowMod, pieces: &[Match]) -> Result<(), Allo
 enum Call {
     /// How many pieces would it book, are they and what is booked within this quota, and do they overlap?
     Ask(u16, &'static [u16], u16, u32),
-    /// It is sent, asks or not to be told of removals, and has the number of its request.
+    /// It is sent, asks or not for reports of removals, and has the number of its request.
     Send(u16, &'static [u16], u16, bool, u64),
     /// The request of this number fails for a match and a priority.
     Fail(u64, u16, u16),
     /// What is no longer booked of a match and a priority?
     Remove(u16, u16),
-    /// Which requests booked so many matches, from a first one on, and a priority? For one that isn't booked 0 is told.
+    /// Which requests booked so many matches, from a first one on, and a priority? For one that isn't booked
+    /// the answer is 0.
     Find(u16, u16, u16),
 }
 

@@ -37,8 +37,8 @@ impl Packets {
     }
 }
 
-/// A call is followed by a question for the packet under a number. Told are how many were given; and, of the packet
-/// if one is held, how many were given before it, and its number at the switch.
+/// A call is followed by a question for the packet under a number. The answer says how many were given; and,
+/// of the packet if one is held, how many were given before it, and its number at the switch.
 impl Part<(Call, u32)> for Packets {
     fn answer(&mut self, call: &(Call, u32)) -> Result<String, AllocError> {
         let (call, number) = call;
@@ -77,7 +77,7 @@ const CALLS: &[((Call, u32), &str)] = &[
     ((Call::Lose(1_009), 9), "257"),
     ((Call::Lose(1_007), 10), "(257, 10, 1010)"),
     ((Call::Use(9), 9), "257"),
-    // the places of those that are gone aren't free for older ones
+    // the places of those that are no longer held aren't free for older ones
     ((Call::Give(2), 2), "259"),
     ((Call::Give(0), 3), "(259, 3, 1003)"),
     ((Call::Give(0), 258), "(259, 258, 1258)"),

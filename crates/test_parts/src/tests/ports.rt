@@ -1,4 +1,4 @@
-//! The ports that a switch has told of, and what of them slices are shown.
+//! The ports that a switch has reported, and what of them slices are shown.
 
 use crate::tests::tables::{Part, play};
 use expectations::told;
@@ -20,9 +20,9 @@ type RuleRows = &'static [(u8, Option<u16>)];
 enum Call {
     /// The switch has these ports.
     Begin(PortRows),
-    /// The switch tells of a change of the port of a number, for a reason. Its mark is 9 then.
+    /// The switch reports a change of the port of a number, for a reason. Its mark is 9 then.
     Change(u16, u8),
-    /// The switch tells of so many new ports, from number 0 on.
+    /// The switch reports so many new ports, from number 0 on.
     Add(u16),
     /// Are these the ports that are known?
     Are(PortRows),

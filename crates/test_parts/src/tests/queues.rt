@@ -15,9 +15,9 @@ enum Call {
     Put(u32, u16),
     /// The same with each transaction from 1 on, so many times.
     PutEach(u32, u16),
-    /// The transaction of the oldest is told.
+    /// The answer is the transaction of the oldest.
     Take,
-    /// Those of all are told, the oldest first.
+    /// The answer is those of all, the oldest first.
     TakeAll,
     Clear,
 }
@@ -51,7 +51,7 @@ impl Waiting {
     }
 }
 
-/// Told are the transactions that were taken, and whether the connection is choked.
+/// The answer says the transactions that were taken, and whether the connection is choked.
 impl Part<Call> for Waiting {
     fn answer(&mut self, call: &Call) -> Result<String, AllocError> {
         let mut taken = Vec::new(self.alloc);

@@ -1,11 +1,11 @@
-//! Rates of messages beside the rule over all moments that were accepted.
+//! Rates of messages beside the rule over all timestamps that were accepted.
 
 use draws::Draws;
 use rate_bucket::RateBucket;
 use std::alloc::Global;
 use std::test::Fail;
 
-// The rule itself, over the accepted moments, the oldest first.
+// The rule itself, over the accepted timestamps, the oldest first.
 fn keeps_the_rate(rate: u32, burst: u32, accepted: &[u64], t: u64) -> bool {
     let mut count = accepted.len();
     for first in accepted {
@@ -19,7 +19,7 @@ fn keeps_the_rate(rate: u32, burst: u32, accepted: &[u64], t: u64) -> bool {
     true
 }
 
-/// The bucket answers so, both times that it is asked about the moment.
+/// The bucket answers so, both times that it is asked about the timestamp.
 fn expect_answer(bucket: &mut RateBucket, moment: u64, answer: bool) -> Result<(), Fail> {
     if bucket.conforms(moment) == answer && bucket.ask(moment) == answer {
         Ok(())
@@ -39,11 +39,11 @@ fn one_a_second_and_two_at_once() -> Result<(), Fail> {
     Ok(())
 }
 
-/// A rate and a burst, with the start and the step of the moments that are asked about.
+/// A rate and a burst, with the start and the step of the timestamps that are asked about.
 type Asked = (u32, u32, u64, u64);
 
-/// Asks about 600 moments that go on from the start, each by less than a step; one in four lies back from there, by
-/// less than three steps. How many were refused?
+/// Asks about 600 timestamps that go on from the start, each by less than a step; one in four lies back from
+/// there, by less than three steps. How many were refused?
 fn refused(alloc: Global, draws: &mut Draws, asked: &Asked) -> Result<u32, Fail> {
     let (rate, burst, start, step) = *asked;
     let mut bucket = RateBucket::new(rate, burst.max(1));

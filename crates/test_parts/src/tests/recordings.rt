@@ -13,13 +13,13 @@ const BEGIN: &str = "4656524543000001";
 /// The bytes that begin a trace.
 const TRACE: &str = "4656545243000001";
 
-/// Switch 0 comes at moment 5.
+/// Switch 0 connects at timestamp 5.
 const UP: &str = "00000000000000000000000000000005";
 
-/// Switch 1 comes.
+/// Switch 1 connects.
 const OTHER_UP: &str = "00010000000000000000000000000000";
 
-/// Switch 0 goes at moment 9.
+/// Switch 0 disconnects at timestamp 9.
 const DOWN: &str = "02000000000000000000000000000009";
 
 /// The slice in slot 1 comes for switch 0.
@@ -291,7 +291,7 @@ fn traces_have_whole_frames(rt: HostRuntime) -> Result<(), Fail> {
     play(&mut TraceReader { alloc: rt.alloc() }, TRACES)
 }
 
-/// Records, each by its kind, its switch, its slot, its moment and its bytes.
+/// Records, each by its kind, its switch, its slot, its timestamp and its bytes.
 const ITEMS: &[(u8, u8, u8, u64, &[u8])] = &[
     (SWITCH_UP, 0, 0, 5, &[]),
     (SLICE_UP, 0, 1, 0, &[]),

@@ -33,7 +33,7 @@ struct Requests {
     map: XidMap,
 }
 
-/// Issues the request, if there were not too many. Its transaction id is told.
+/// Issues the request, if there were not too many. The answer is its transaction id.
 fn issue(map: &mut XidMap, asked: Asked) -> u32 {
     if map.next().0 < 1_000_000 {
         map.issue(asked)

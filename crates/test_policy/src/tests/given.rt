@@ -1,4 +1,4 @@
-//! Slices, rules and policies for the tests, and what is told of them.
+//! Slices, rules and policies for the tests, and what is said of them.
 
 ghost use Rattle.std.specs.Prelude.{All, IfOk};
 ghost use Rattle.flowspace.specs.Slices.{IsPlainSlice};

@@ -19,7 +19,7 @@ fn ports_text(alloc: Global, highest: u32, text: &str) -> Result<String, AllocEr
     }
 }
 
-/// What stands behind `version = 2`, and what is told of it.
+/// What stands behind `version = 2`, and what is said of it.
 const TEXTS: &[(&str, &str)] = &[
     ("", "[]"),
     ("port = []", "[]"),
@@ -121,7 +121,7 @@ fn port_tables_are_read_or_have_a_place(rt: HostRuntime) -> Result<(), Fail> {
     Ok(())
 }
 
-/// A highest version, a text, and what is told of it.
+/// A highest version, a text, and what is said of it.
 const VERSIONS: &[(u32, &str, &str)] = &[
     (1, "version = 1", "[]"),
     (1, "version = 1\nport = []", "UnknownKey(port)"),

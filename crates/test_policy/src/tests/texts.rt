@@ -38,7 +38,7 @@ fn policy_with(alloc: Global, rules: &str) -> Result<Policy, Fail> {
     Ok(policy.ok_or("the text is a policy")?)
 }
 
-/// The text has these rules, and what is told of it is wanted.
+/// The text has these rules, and what is said of it is wanted.
 fn expect_rules(
     rt: &impl Abort,
     alloc: Global,

@@ -72,7 +72,7 @@ fn put(state: &mut SliceState, change: Change) -> Result<(), AllocError>
     Ok(())
 }
 
-/// Whether the slice is up or not, wants so many bytes of a packet, and was heard last at that moment.
+/// Whether the slice is up or not, wants so many bytes of a packet, and was heard last at that timestamp.
 fn stands_so(state: &SliceState, up: bool, miss_send_len: u16, moment: u64) -> bool {
     state.up == up && state.miss_send_len == miss_send_len && state.moment == moment
 }
@@ -89,7 +89,8 @@ fn told(alloc: Global, reaction: &Reaction) -> Result<String, AllocError> {
     Ok(text)
 }
 
-/// Each message is answered as its row says. A row is a line: what the controller sends, and what is to be told.
+/// Each message is answered as its row says. A row is a line: what the controller sends, and what is to be
+/// sent.
 fn expect_rows(alloc: Global, rows: &str) -> Result<(), Fail> {
     let bench = set_up(alloc)?;
     for row in rows.lines() {
@@ -136,7 +137,7 @@ fn each_message_is_answered_by_its_first_line(rt: HostRuntime) -> Result<(), Fai
     Ok(())
 }
 
-/// The switch is told of with the one port that the slice has.
+/// The switch is described with the one port that the slice has.
 const FEATURES_ROW: &str = "\
 0105000800000007 => stays 010600500000000700000000000000a100000100010000000000000000000fff\
 000100000000000000000000000000000000000000000000000000000000000000000000000000000000000000000000";
@@ -148,8 +149,8 @@ fn features_are_those_of_the_slice(rt: HostRuntime) -> Result<(), Fail> {
 }
 
 impl Bench {
-    /// Whether the slice wants so many bytes of a packet once the message has come at its moment, and was heard last
-    /// at that other moment.
+    /// Whether the slice wants so many bytes of a packet once the message has come at its timestamp, and was
+    /// heard last at that other timestamp.
     fn is_settled(&mut self, alloc: Global, digits: &str, moment: u64, then: (u16, u64)) -> bool {
         match self.settle(alloc, digits, moment) {
             Ok(()) => stands_so(&self.state, true, then.0, then.1),
@@ -157,8 +158,8 @@ impl Bench {
         }
     }
 
-    /// Whether the slice wants so many bytes of a packet once its controller has gone, and was heard last at that
-    /// moment.
+    /// Whether the slice wants so many bytes of a packet once its controller has disconnected, and was heard
+    /// last at that timestamp.
     fn is_left(&mut self, miss_send_len: u16, moment: u64) -> bool {
         go_down(&mut self.state);
         stands_so(&self.state, false, miss_send_len, moment)

@@ -50,7 +50,7 @@ fn answer(
     react(alloc, policy, &index, &ports, states, message)
 }
 
-/// Whether the switch's connection stays or ends, what it and each slot is told, and the port that changes.
+/// Whether the switch's connection stays or ends, what it and each slot is sent, and the port that changes.
 fn told(alloc: Global, dispatch: &Dispatch) -> Result<String, AllocError> {
     let mut text = String::from_str(alloc, if dispatch.close { "ends" } else { "stays" })?;
     for message in &dispatch.to_switch {
@@ -73,8 +73,8 @@ fn written_out(alloc: Global, digits: &str) -> Result<String, AllocError> {
     digits.as_str().replace(alloc, "]", BEHIND_PORT)
 }
 
-/// Each row is told as it says, where each slice's connection is up or not. A row is a line: what the switch sends, and
-/// what is to be told.
+/// Each message is answered as its row says, where each slice's connection is up or not. A row is a line:
+/// what the switch sends, and what is to be sent.
 fn expect_rows(alloc: Global, rules: &[RuleRow], up: [bool; 2], rows: &str) -> Result<(), Fail> {
     let policy = policy_of(alloc, rules)?;
     let states = states(alloc, &policy, up)?;
@@ -88,7 +88,7 @@ fn expect_rows(alloc: Global, rules: &[RuleRow], up: [bool; 2], rows: &str) -> R
     Ok(())
 }
 
-/// What the switch sends, and who is told what.
+/// What the switch sends, and who is sent what.
 const MESSAGE_ROWS: &str = "\
 010a004800000063ffffffff003600010000[tcp 0050] => stays, slot 0: 010a004800000000ffffffff003600010000[tcp 0050]
 010a004800000063ffffffff00ff000201ee[tcp 0016] => stays, slot 1: 010a004800000000ffffffff00ff00020100[tcp 0016]
@@ -109,7 +109,7 @@ fn each_message_goes_where_it_concerns_somebody(rt: HostRuntime) -> Result<(), F
     Ok(())
 }
 
-/// What the switch sends, and what it is told.
+/// What the switch sends, and what it is sent.
 const SWITCH_ROWS: &str = "\
 0102000c00000004aabbccdd => stays, switch: 0103000c00000004aabbccdd
 0402000c00000004aabbccdd => stays
@@ -127,7 +127,7 @@ fn the_switch_is_answered_itself(rt: HostRuntime) -> Result<(), Fail> {
     Ok(())
 }
 
-/// Whether the reader and the writer of a packet are up, and who is told of it.
+/// Whether the reader and the writer of a packet are up, and who is sent it.
 const READER_ROWS: &[([bool; 2], &str)] = &[
     (
         [true, true],
@@ -160,8 +160,8 @@ fn readers_are_told_where_they_are_up(rt: HostRuntime) -> Result<(), Fail> {
     Ok(())
 }
 
-/// Packet-ins at port 1 of the first bytes of a TCP packet to port 80, in buffer 7 of the switch, and who is told of
-/// them: it has a writer as soon as the port that it is for is there.
+/// Packet-ins at port 1 of the first bytes of a TCP packet to port 80, in buffer 7 of the switch, and who is
+/// sent them. A packet has a writer as soon as the TCP port that it is for is there.
 fn cut_rows(alloc: Global) -> Result<String, AllocError> {
     let packet = written_out(alloc, "[tcp 0050]")?;
     let mut rows = String::new(alloc);

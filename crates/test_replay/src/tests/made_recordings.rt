@@ -31,9 +31,9 @@ const SYN: &str = "0000000000000000 5002 000000000000";
 /// The match of the TCP packets from a port, up to that port.
 const FROM: &str = "0038208f 000000000000000000000000000000000000 0800 0006 00000000000000000000";
 
-/// The record that a row stands for: a packet-in of a moment, a buffer, a port and a TCP port; a flow-mod of a
-/// moment, a slot, a TCP port, a priority and a port; a packet-out of a moment, a slot, a port and a TCP port; or
-/// a barrier of a moment and a slot.
+/// The record that a row stands for. A packet-in has a timestamp, a buffer, a port and a TCP port; a flow-mod
+/// a timestamp, a slot, a TCP port, a priority and a port; a packet-out a timestamp, a slot, a port and a TCP
+/// port. A barrier has a timestamp and a slot.
 fn record(alloc: Global, row: &str) -> Result<Vec<u8>, AllocError> {
     let mut words = Vec::new(alloc);
     for word in row.split(' ') {

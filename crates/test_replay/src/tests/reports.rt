@@ -48,7 +48,8 @@ const TO_WEB: &str = "\
 000000000002000000000001080045000028000000004006\
 00000a0000010a0000020400005000000000000000005002000000000000";
 
-/// A recording, record by record: the switch comes and tells its features, alice and bob come, and a packet comes.
+/// A recording, record by record: the switch connects and says its features, alice and bob connect, and a
+/// packet comes.
 const RECORDING: &[&str] = &[
     "4656524543000001",
     "00000000000000000000000000000000",

@@ -324,7 +324,8 @@ fn each_piece_has_its_actions_and_one_the_buffer(rt: HostRuntime) -> Result<(), 
     Ok(())
 }
 
-/// What is told of the messages that `build` makes for lists of so many actions of 8 bytes each: how many they are.
+/// What is said of the messages that `build` makes for lists of so many actions of 8 bytes each: how many
+/// they are.
 fn made(alloc: Global, command: u16, counts: &[usize]) -> Result<String, AllocError> {
     let asked = for_all(alloc, command)?;
     let mut found = Vec::new(alloc);
@@ -339,7 +340,7 @@ fn made(alloc: Global, command: u16, counts: &[usize]) -> Result<String, AllocEr
     }
 }
 
-/// Commands, the lengths of lists, and what is told of the messages for them.
+/// Commands, the lengths of lists, and what is said of the messages for them.
 const SIZES: &[(u16, &[usize], &str)] = &[
     // 65,528 bytes and 65,536 bytes
     (ADD, &[8182], "1"),

@@ -1,4 +1,4 @@
-//! Whether a header is in a match, field by field, and headers that tell two matches apart.
+//! Whether a header is in a match, field by field, and headers that distinguish two matches.
 
 use of10_match::Header12;
 use of10_model::{Pattern, Prefix};

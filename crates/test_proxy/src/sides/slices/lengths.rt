@@ -24,8 +24,9 @@ struct Whole {
     answers: &'static [Answer],
 }
 
-/// What is answered: the least length of the message and the greatest, the same of its part, how many bytes there are
-/// at least beside the part; and class and code of the error, or nothing where the message is sent on.
+/// What is answered: the least length of the message and the greatest, the same of its part, and how many
+/// bytes there are at least beside the part. Then class and code of the error, or nothing where the message
+/// is sent on.
 type Answer = (u16, u16, u16, u16, u16, &'static [u8]);
 
 const MOST: u16 = u16::MAX;

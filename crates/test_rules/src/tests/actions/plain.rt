@@ -114,7 +114,7 @@ fn with_service(header: &Header12, tp_dst: u16) -> Header12 {
     Header12 { tp_dst, ..*header }
 }
 
-/// The packet after an action, as far as the rules that are drawn tell packets apart.
+/// The packet after an action, as far as the rules that are drawn distinguish packets.
 fn rewritten(header: &Header12, action: &Action) -> Header12 {
     match *action {
         Action::SetNwDst(address) => with_address(header, address),
@@ -135,7 +135,7 @@ pub fn may_have(grants: &[Grant], kind: Kind, header: &Header12, actions: &[Acti
     true
 }
 
-/// Whether the list changes the packet to another that rules tell from it.
+/// Whether the list changes the packet to another that rules distinguish from it.
 pub fn rewrites(header: &Header12, actions: &[Action]) -> bool {
     let mut image = *header;
     for action in actions {

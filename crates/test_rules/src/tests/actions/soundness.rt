@@ -76,8 +76,7 @@ impl Case {
         are_right
     }
 
-    /// Whether the answer is right for the packets that are drawn. Why a piece is refused, none of them
-    /// tells.
+    /// Whether the answer is right for the packets that are drawn. None of them shows why a piece is refused.
     fn has_right_answer(
         &self,
         grants: &[Grant],

@@ -5,7 +5,7 @@ use Rattle.flowspace.proofs.Accepting.{IsPolicy-fault_of}
 use Rattle.flowspace.proofs.Swapping.{AreSwaps-fault_of_swaps}
 use Rattle.flowspace.proofs.policy.Policy.load_ports.Goals as goal
 
--- an early fault is the one that was found, and so the one that is told
+-- an early fault is the one that was found, and so the one that is reported
 told : {A E : Type 0} (early : Option PolicyFault) (found : Result (Option PolicyFault) E) (given : Result A PolicyFault) → IfSome early (λ fault. found ≡ Ok (Some fault))
     → ((fault : PolicyFault) → found ≡ Ok (Some fault) → given ≡ Err fault) → IfSome early (λ fault. given ≡ Err fault)
 told None found given is tells = tt
