@@ -109,7 +109,7 @@ PORT_FORMS = {
 }
 SLICE_REQUIRED, RULE_REQUIRED = ("name", "controller"), ("priority",)
 PORT_REQUIRED = ("slice", "shown", "physical")
-HIGHEST_VERSION = 1  # that `flowvisor check` accepts
+HIGHEST_VERSION = 2  # that `flowvisor check` accepts
 
 
 def top_keys(version):

@@ -25,7 +25,7 @@ SAME_FAULTS = (
     (r"not TOML", r"not TOML"),
     (r"missing (version|slice)", r"{0} is missing"),
     (r"missing (slice|rule|port)\.(\d+)\.(\w+)", r"{0} {1} has no {2}: it is"),
-    (r"bad value version", r"version is .*, but must be 1"),
+    (r"bad value version", r"version is .*, but must be 1 or 2"),
     (r"bad value (slice|rule|port)", r"{0} must be tables|{0} is empty"),
     (r"bad value (slice|rule|port)\.(\d+)\.(\w+)", r"{0} {1}: {2} is .*, but must be"),
     (r"unknown key (slice|rule|port)\.(\d+)\.(.*)", r"{0} {1} has no key {2}"),
@@ -150,7 +150,7 @@ class PortTables(unittest.TestCase):
 
     def test_versions(self):
         self.assert_told("port = []\n" + TOP, "1:1 a policy has no key port; with version = 2 it may have")
-        self.assertEqual(told("port = []\n" + TOP), ["1:1 a policy has no key port"])
+        self.assertEqual(told("port = []\n" + TOP), ["1:1 a policy has no key port; with version = 2 it may have"])
         self.assert_told(TOP.replace("= 1", "= 3", 1), "1:11 version is 3, but must be 1 or 2")
         many = "".join(port_table("alice", number, number) for number in range(1025))
         self.assert_told(self.top + many, "4104:1 there are 1025 ports, but at most 1024 may be")
@@ -183,7 +183,7 @@ class Faults(unittest.TestCase):
             "1:1 slice is missing: a policy has at least one table [[slice]]",
             "1:1 version is missing: a policy has the line version = 1",
         )
-        self.assert_told(TOP.replace("version = 1", "version = 2"), "1:11 version is 2, but must be 1")
+        self.assert_told(TOP.replace("version = 1", "version = 3"), "1:11 version is 3, but must be 1 or 2")
         self.assert_told(
             'version = 1\n[slice]\nname = "alice"\n', "2:1 slice must be tables, each under a header [[slice]] with two brackets"
         )

@@ -99,7 +99,7 @@ class Statuses(unittest.TestCase):
 
     def test_policies(self):
         self.assertEqual(run("check", self.file(SLICES.encode())), Outcome(0, "ok 2 0\n", ""))
-        self.assertEqual(run("check", self.file(b"version = 2")), Outcome(2, "", "policy: bad value version\n"))
+        self.assertEqual(run("check", self.file(b"version = 3")), Outcome(2, "", "policy: bad value version\n"))
         self.assertEqual(run("check", self.folder / "none"), Outcome(4, "", "read fault\n"))
         self.assertEqual(run("check", self.file(bytes((1 << 20) + 1))), Outcome(7, "", "too large\n"))
 
@@ -331,10 +331,10 @@ rule = [
             (self.INNER.replace("quota = 9", "quota = 1024"), "nest: quota 1025"),
             (self.INNER.replace('write = "h", ', ""), "nest: rule 0 has no writer"),
             (self.INNER.replace('name = "x"', 'name = "b"').replace('write = "x"', 'write = "b"'), "policy: slice 2 is a duplicate"),
-            ("version = 2", "policy: bad value version"),
+            ("version = 3", "policy: bad value version"),
         ]:
             self.assertEqual(self.flatten(inner), Outcome(2, "", line + "\n"))
-        self.assertEqual(self.flatten("version = 2", "x"), Outcome(2, "", "nest: no slice\n"))
+        self.assertEqual(self.flatten("version = 3", "x"), Outcome(2, "", "nest: no slice\n"))
 
 
 class Policies(unittest.TestCase):

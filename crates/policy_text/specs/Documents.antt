@@ -64,7 +64,7 @@ policy_up_to highest document = parts_of highest document >>= (λ parts. loaded 
 
 -- the highest version that `read` accepts
 abbrev pub accepted : ℕ
-accepted = 1
+accepted = 2
 
 -- the policy that a text says, or its first fault
 abbrev pub policy_of : Option Members → Result PolicyView ReadFault

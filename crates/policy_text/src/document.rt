@@ -23,7 +23,7 @@ use std::alloc::Global;
 use toml::{Table, Value};
 
 /// The highest version of a text that [`read`] accepts.
-pub const ACCEPTED: u32 = 1;
+pub const ACCEPTED: u32 = 2;
 
 /// The slices, the rules and the swaps of a text.
 #[derive(Drop)]
