@@ -19,3 +19,4 @@ pub mod Stays
 pub mod SentLengths
 pub mod Features
 pub mod Ordered
+pub mod Received
