@@ -20,3 +20,4 @@ pub mod SentLengths
 pub mod Features
 pub mod Ordered
 pub mod Received
+pub mod SentHeads

@@ -118,7 +118,7 @@ by_within kind f =
     (either f (kind == 17 && leb 12 (length f)) (at.Entries (number_at f 8 2)) _ (λ e. leb-true 12 (length f) (and_parts (kind == 17) (leb 12 (length f)) e).1)
     (either f (kind == 6 && has_whole_ports f) at.Ports at.Nowhere (λ e. let whole = (and_parts (kind == 6) (has_whole_ports f) e).1 in (ports_long f whole, whole)) tt)))))
 
-places_within : (f : List ℕ) → AreWithin f (places_of f)
+pub places_within : (f : List ℕ) → AreWithin f (places_of f)
 unfolding places_of
 places_within f = either f (version_of f == 1 && not (is_bad f)) (places_by (message_kind f) f) at.Nowhere (λ e. by_within (message_kind f) f) tt
 
