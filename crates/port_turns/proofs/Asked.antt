@@ -18,6 +18,8 @@ use Rattle.port_turns.specs.Turns.{written, turn_port, turn_match}
 use Rattle.of10_ctl.proofs.Patched.{with_alike, with_read}
 use Rattle.port_turns.proofs.Patched.{written_small, number_take}
 use Rattle.port_turns.proofs.Matches.{turn_match_alike, turn_match_read}
+use Rattle.port_turns.specs.declared.receiving.Layout.TheVariants as laid
+use Rattle.port_turns.specs.Received.{layout_of_request, AreLaid}
 use Rattle.port_turns.specs.Readings.{turn_entries, turn_request, turned_request, turned_queues}
 
 -- ---- what is read
@@ -153,6 +155,20 @@ module _ (pairs : Pairs) (bytes : List ℕ) (r : StatsRequest) (e : read_request
       read_from turned kind same_kind (record { known = known; long = request_size ∙ long })
       ∙ ap (λ (q : StatsRequest). Ok q) (subst (λ (q : StatsRequest). request_of kind (turn_request pairs q bytes) ≡ turned_request (written pairs) q) asked.1 (value_of pairs kind bytes asked.0))
 
+-- the numbers of a request stand within it
+laid_of : (kind : ℕ) (bytes : List ℕ) → IsAsked bytes kind → AreLaid bytes (layout_of_request (request_of kind bytes))
+unfolding request_of
+laid_of zero bytes asked = tt
+laid_of (suc zero) bytes asked = (let long = asked.long in omega (arith, long))
+laid_of (suc (suc zero)) bytes asked = (let long = asked.long in omega (arith, long))
+laid_of (suc (suc (suc zero))) bytes asked = tt
+laid_of (suc (suc (suc (suc zero)))) bytes asked = (let long = asked.long in (omega arith, omega (arith, long)))
+laid_of (suc (suc (suc (suc (suc zero))))) bytes asked = (let long = asked.long in (omega arith, omega (arith, long)))
+laid_of (suc (suc (suc (suc (suc (suc n)))))) bytes asked = (let known = asked.known in absurd (omega (arith, known)))
+
+pub request_laid : (bytes : List ℕ) (r : StatsRequest) → read_request bytes ≡ Ok r → AreLaid bytes (layout_of_request r)
+request_laid bytes r e = (let asked = asked_of bytes r e in subst (λ (q : StatsRequest). AreLaid bytes (layout_of_request q)) asked.1 (laid_of (number_at bytes 8 2) bytes asked.0))
+
 -- ---- a question for queues
 
 module _ (pairs : Pairs) (bytes : List ℕ) (q : QueuesQuestion) (e : read_queues_request bytes ≡ Ok q) where
@@ -164,6 +180,9 @@ module _ (pairs : Pairs) (bytes : List ℕ) (q : QueuesQuestion) (e : read_queue
 
   alike : AlikeBut 8 10 bytes (turn_port pairs 8 bytes)
   alike = with_alike 8 (written pairs (number_at bytes 8 2)) bytes (let n = long in omega (arith, n))
+
+  pub queues_laid : AreLaid bytes (laid.Port 8)
+  queues_laid = (let n = long in (omega arith, omega (arith, n)))
 
   pub queues_size : length (turn_port pairs 8 bytes) ≡ length bytes
   queues_size = sym alike.size

@@ -110,7 +110,7 @@ module _ (bytes : List ℕ) where
 -- ---- the same head
 
 module _ (bytes turned : List ℕ) (head : take 8 turned ≡ take 8 bytes) where
-  same_byte : (k : ℕ) → k < 8 → slice_index turned k ≡ slice_index bytes k
+  pub same_byte : (k : ℕ) → k < 8 → slice_index turned k ≡ slice_index bytes k
   same_byte k lt = sym (get_or-take 8 turned k 0 lt) ∙ ap (λ (l : List ℕ). slice_index l k) head ∙ get_or-take 8 bytes k 0 lt
 
   pub same_length : number_at turned 2 2 ≡ number_at bytes 2 2

@@ -1,5 +1,6 @@
 -- A flow-mod whose bytes are turned is read as the flow-mod, turned.
-use Rattle.std.proofs.Common.{◌≡◌, ℕ, ◌+◌, ◌≤◌, ◌<◌, ◌^◌, nat_lt, List, ◌++◌, map, length, take, drop, refl, sym, ap, ◌∙◌, Ok, arith}
+use Rattle.std.proofs.Common.{◌≡◌, ℕ, ◌+◌, ◌≤◌, ◌<◌, ◌^◌, nat_lt, true, List, ◌++◌, map, length, take, drop, refl, sym, ap, ◌∙◌, Ok, arith}
+use Rattle.std.specs.Prelude.{is_ok}
 use Rattle.std.proofs.lemmas.Bool.{le-ltb, ltb-false}
 use Rattle.std.proofs.lemmas.List.{length-append, length-take-le, length-drop, take-take, drop_at, drop-take, take-append-le, drop-append-le}
 use Rattle.of10_model.specs.Normal.{number_at, match_at, Norm}
@@ -38,6 +39,10 @@ is_split bytes m e =
 read_from : (bytes : List ℕ) (actions : List Action) → 72 ≤ length bytes → read_all (drop 72 bytes) ≡ Ok actions → read_flow_mod bytes ≡ Ok (flow_mod_with actions bytes)
 unfolding read_flow_mod
 read_from bytes actions long read = rw (le-ltb (length bytes) 72 long, read) refl
+
+-- one that is read is long enough, and its actions are right
+pub flow_mod_right : (bytes : List ℕ) (m : FlowMod) → read_flow_mod bytes ≡ Ok m → (72 ≤ length bytes) × (is_ok (read_all (drop 72 bytes)) ≡ true)
+flow_mod_right bytes m e = (let s = is_split bytes m e in (s.long, ap is_ok s.read))
 
 -- ---- the 72 bytes in front
 

@@ -20,3 +20,5 @@ pub mod SentLengths
 pub mod Features
 pub mod Ordered
 pub mod OutLengths
+pub mod Received
+pub mod SentHeads

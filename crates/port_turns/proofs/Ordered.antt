@@ -1,17 +1,16 @@
 -- Ports in the order of their numbers, as a sort makes it, and the message that has them.
-use Rattle.std.proofs.Common.{◌≡◌, ℕ, ◌+◌, ◌-◌, ◌*◌, ◌/◌, ◌%◌, ◌≤◌, ◌==◌, ◌&&◌, not, nat_lt, List, ◌++◌, length, take, drop, replicate, refl, sym, ap, subst, ◌∙◌, arith, inl, inr}
+use Rattle.std.proofs.Common.{◌≡◌, ℕ, ◌-◌, ◌*◌, ◌/◌, ◌%◌, ◌≤◌, ◌==◌, not, nat_lt, List, ◌++◌, length, take, drop, replicate, refl, sym, ap, subst, ◌∙◌, arith, inl, inr}
 use Rattle.std.specs.Prelude.{IsTrue}
 use Rattle.std.specs.List.Sorted.{IsSortedBy, IsStableBy}
 use Rattle.std.proofs.lemmas.Bool.{cases_lt, ne_eqb, and_parts, eqb-true}
 use Rattle.std.proofs.lemmas.List.{length-append, length-take-le, length-drop, take_at, drop_all}
 use Rattle.std.proofs.lemmas.List.Sorted.{length_permutation}
-use Rattle.byteorder.specs.Endian.{big_number, big_bytes}
 use Rattle.byteorder.specs.Numbers.{big_number-reads_back}
 use Rattle.of10_model.specs.Padding.{AlikeBut}
 use Rattle.of10_model.proofs.Padding.{number_before}
 use Rattle.of10_ctl.specs.Heads.{length_field}
 use Rattle.of10_ctl.specs.Frames.{IsFrame}
-use Rattle.of10_port.specs.Ports.{port_number, bare_port, port_bytes, ports_in}
+use Rattle.of10_port.specs.Ports.{port_number, bare_port, port_bytes}
 use Rattle.of10_port.specs.Features.{has_whole_ports}
 use Rattle.flowspace.proofs.Ranking.{goes_before, IsRankOrNone, IsPermutation-ranked, ranked-from_sort}
 use Rattle.port_turns.specs.Sent.{descent, in_number_order}

@@ -1,5 +1,6 @@
 -- A packet-out whose bytes are turned is read as the packet-out, turned.
-use Rattle.std.proofs.Common.{◌≡◌, ℕ, ◌+◌, ◌≤◌, ◌<◌, ◌^◌, nat_lt, if◌then◌else◌, List, ◌++◌, map, length, take, drop, refl, sym, ap, ◌∙◌, Ok, Err, arith}
+use Rattle.std.proofs.Common.{◌≡◌, ℕ, ◌+◌, ◌≤◌, ◌<◌, ◌^◌, nat_lt, true, if◌then◌else◌, List, ◌++◌, map, length, take, drop, refl, sym, ap, ◌∙◌, Ok, Err, arith}
+use Rattle.std.specs.Prelude.{is_ok}
 use Rattle.std.proofs.lemmas.Bool.{le-ltb, ltb-false}
 use Rattle.std.proofs.lemmas.List.{length-append, length-take-le, length-drop, take-take, take_at, drop_at, drop-drop, take-append-le}
 use Rattle.of10_model.specs.Normal.{number_at}
@@ -51,6 +52,10 @@ read_from : (bytes : List ℕ) (actions : List Action) → 16 ≤ length bytes �
     → read_packet_out bytes ≡ Ok (packet_out_with actions bytes)
 unfolding read_packet_out
 read_from bytes actions long whole read = rw (le-ltb (length bytes) 16 long, le-ltb (length bytes) (16 + number_at bytes 14 2) whole, read) refl
+
+-- one that is read has as many bytes as it says, and its actions are right
+pub packet_out_right : (bytes : List ℕ) (m : PacketOut) → read_packet_out bytes ≡ Ok m → (16 + number_at bytes 14 2 ≤ length bytes) × (is_ok (read_all (take (number_at bytes 14 2) (drop 16 bytes))) ≡ true)
+packet_out_right bytes m e = (let s = is_split bytes m e in (s.whole, ap is_ok s.read))
 
 -- what stands behind the 16 bytes in front
 behind_length : (pairs : Pairs) (size : ℕ) (rest : List ℕ) → size ≤ length rest → length (turn_behind pairs size rest) ≡ length rest

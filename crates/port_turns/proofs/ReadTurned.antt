@@ -41,16 +41,16 @@ queues_of (Ok x) m e = cc
 queues_of (Err fault) m e = absurd cc
 
 module _ (bytes : List ℕ) where
-  packet_out_read : (m : PacketOut) → read_controller bytes ≡ Ok (said.PacketOut m) → read_packet_out bytes ≡ Ok m
+  pub packet_out_read : (m : PacketOut) → read_controller bytes ≡ Ok (said.PacketOut m) → read_packet_out bytes ≡ Ok m
   packet_out_read m e = (let typed = is_typed bytes (said.PacketOut m) e refl in packet_out_of (read_packet_out bytes) m (sym (packet_out_typed bytes typed.2) ∙ typed.1))
 
-  flow_mod_read : (m : FlowMod) → read_controller bytes ≡ Ok (said.FlowMod m) → read_flow_mod bytes ≡ Ok m
+  pub flow_mod_read : (m : FlowMod) → read_controller bytes ≡ Ok (said.FlowMod m) → read_flow_mod bytes ≡ Ok m
   flow_mod_read m e = (let typed = is_typed bytes (said.FlowMod m) e refl in flow_mod_of (read_flow_mod bytes) m (sym (flow_mod_typed bytes typed.2) ∙ typed.1))
 
-  request_read : (m : StatsRequest) → read_controller bytes ≡ Ok (said.StatsRequest m) → read_request bytes ≡ Ok m
+  pub request_read : (m : StatsRequest) → read_controller bytes ≡ Ok (said.StatsRequest m) → read_request bytes ≡ Ok m
   request_read m e = (let typed = is_typed bytes (said.StatsRequest m) e refl in request_of (read_request bytes) m (sym (request_typed bytes typed.2) ∙ typed.1))
 
-  queues_read : (m : QueuesQuestion) → read_controller bytes ≡ Ok (said.QueueGetConfigRequest m) → read_queues_request bytes ≡ Ok m
+  pub queues_read : (m : QueuesQuestion) → read_controller bytes ≡ Ok (said.QueueGetConfigRequest m) → read_queues_request bytes ≡ Ok m
   queues_read m e = (let typed = is_typed bytes (said.QueueGetConfigRequest m) e refl in queues_of (read_queues_request bytes) m (sym (queues_typed bytes typed.2) ∙ typed.1))
 
 -- ---- size and head

@@ -3,3 +3,4 @@ pub mod Turned
 pub mod Readings
 pub mod Sent
 pub mod Rows
+pub mod Received

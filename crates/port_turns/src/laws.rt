@@ -69,6 +69,11 @@ pub fn sent_message_keeps_its_length()
     ensures { (pairs : Pairs) (f : List ℕ) → length (turned_numbers pairs f) ≡ length f }
 {}
 
+/// It has the head that it had, with its ports in their order too.
+pub fn sent_message_keeps_its_head()
+    ensures { (pairs : Pairs) (f : List ℕ) → take 8 (turn_out pairs f) ≡ take 8 f }
+{}
+
 /// A FEATURES_REPLY for a slice that has swaps has each port under the number that is shown, and the ports in
 /// ascending order of these (OpenFlow 1.0.0, section 5.3.1; the order is this proxy's own rule).
 pub fn ports_are_shown_in_order()

@@ -19,7 +19,7 @@ use of10_stats::protocol::{FLOW, PORT, QUEUE};
 use std::alloc::{AllocError, Global};
 
 /// The port at a place is exchanged.
-fn turn_port(policy: &SwitchPolicy, slot: u8, frame: &mut Frame, at: usize)
+pub(crate) fn turn_port(policy: &SwitchPolicy, slot: u8, frame: &mut Frame, at: usize)
     requires body { 8 ≤ at }
     requires within { at + 2 ≤ length frame.old }
     ensures value { frame.new ≡ turn_port (pairs_of policy.now.swaps slot) at frame.old }
@@ -30,7 +30,7 @@ fn turn_port(policy: &SwitchPolicy, slot: u8, frame: &mut Frame, at: usize)
 }
 
 /// The port of entry of the match at a place is exchanged, where it isn't free.
-fn turn_match(policy: &SwitchPolicy, slot: u8, frame: &mut Frame, at: usize)
+pub(crate) fn turn_match(policy: &SwitchPolicy, slot: u8, frame: &mut Frame, at: usize)
     requires body { 8 ≤ at }
     requires within { at + 40 ≤ length frame.old }
     ensures value { frame.new ≡ turn_match (pairs_of policy.now.swaps slot) at frame.old }
@@ -56,7 +56,13 @@ fn turn_action(policy: &SwitchPolicy, slot: u8, frame: &mut Frame, at: usize)
 }
 
 /// The ports of actions are exchanged: they stand between two places and are right.
-fn turn_actions(policy: &SwitchPolicy, slot: u8, frame: &mut Frame, from: usize, end: usize)
+pub(crate) fn turn_actions(
+    policy: &SwitchPolicy,
+    slot: u8,
+    frame: &mut Frame,
+    from: usize,
+    end: usize,
+)
     requires body { 8 ≤ from }
     requires first { from ≤ end }
     requires within { end ≤ length frame.old }

@@ -4,6 +4,8 @@ ghost use Rattle.of10_ctl.specs.Kinds.{IsOf};
 ghost use Rattle.of10_port.specs.declared.features.Features.{Features as FeaturesTold};
 ghost use Rattle.of10_port.specs.declared.status.PortStatus.{PortStatus as StatusView};
 ghost use Rattle.of10_port.specs.Features.{spell_features};
+ghost use Rattle.flowspace.specs.Swaps.{pairs_of};
+ghost use Rattle.port_turns.specs.Sent.{turn_out};
 ghost use Rattle.port_view.specs.KnownPorts.{IsAscending, with_told, first_known, kept_of, is_kept, changed, known_of};
 ghost use Rattle.port_view.specs.Places.{PortsStand};
 ghost use Rattle.port_view.specs.SlicePorts.{ports_of_slice, features_with, flooded};
@@ -109,9 +111,9 @@ impl PortView {
         }
     }
 
-    /// The FEATURES_REPLY that a slice is sent: its own ports, and of the switch's features what it is shown
-    /// (OpenFlow 1.0.0, section 5.3.1).
-    pub fn features_for(
+    /// A FEATURES_REPLY with the ports of a slice, under the switch's own numbers, and of the switch's features what
+    /// the slice is shown (OpenFlow 1.0.0, section 5.3.1).
+    pub fn features_of(
         &self,
         alloc: Global,
         policy: &SwitchPolicy,
@@ -132,6 +134,24 @@ impl PortView {
             ports: Ports::from_vec(ports_of(alloc, &self.ports, policy, slot)?),
         };
         shown.encode(alloc, xid)
+    }
+
+    /// The FEATURES_REPLY that a slice is sent: `features_of`, with the port numbers that the slice is shown.
+    pub fn features_for(
+        &self,
+        alloc: Global,
+        policy: &SwitchPolicy,
+        slot: u8,
+        of: &Features,
+        xid: u32,
+    ) -> Result<Frame, AllocError>
+        ensures value { IfOk result (λ f. f ≡ turn_out (pairs_of policy.now.swaps slot) (spell_features (features_with of.now (ports_of_slice policy.now.rules slot self.now)) xid)) }
+        ensures kind { IfOk result (λ f. IsOf FEATURES_REPLY f) }
+        ensures answer { (features : FeaturesTold) (statuses : List StatusView) → PortsStand features statuses self.now → IfOk result (λ f. f ≡ turn_out (pairs_of policy.now.swaps slot) (spell_features (features_with of.now (ports_of_slice policy.now.rules slot (known_of features statuses))) xid)) }
+    {
+        let mut reply = self.features_of(alloc, policy, slot, of, xid)?;
+        port_turns::turn_out(alloc, policy, slot, &mut reply)?;
+        Ok(reply)
     }
 
     /// The numbers of the slice's ports that a flood goes out of, ascending: all but the switch's own port

@@ -88,7 +88,7 @@ fn features(alloc: Global, around: &Around<'_>, frame: &Frame) -> Result<Frame, 
     let xid = frame.head().xid;
     around
         .ports
-        .features_for(alloc, around.policy, around.slot, around.features, xid)
+        .features_of(alloc, around.policy, around.slot, around.features, xid)
 }
 
 /// A message that asks nothing of the switch: this proxy answers echoes, features and configuration itself
