@@ -9,7 +9,7 @@ from .proxy_streams import captured_sessions, reported_sessions
 from .reports import lines_of
 
 NAME = "compare"
-SUMMARY = "tell whether a proxy sent what a report says"
+SUMMARY = "say whether a proxy sent what a report says"
 USAGE = "%(prog)s --switch-port PORT [OPTION]... CAPTURE REPORT"
 EPILOG = """\
 REPORT is what flowvisor replay prints of the recording that from-pcap makes of CAPTURE with the same options. Of each

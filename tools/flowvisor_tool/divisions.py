@@ -170,7 +170,7 @@ def divided(outer_path, name, inner):
     """The division of the slice of a name by an inner policy that is accepted."""
     outer = read_pair(outer_path)
     if outer.reading.faults:
-        raise Fault("it isn't accepted: flowvisor-tool lint tells why", outer_path)
+        raise Fault("it isn't accepted: flowvisor-tool lint prints why", outer_path)
     slots = [one.slot for one in outer.policy.slices if one.name == name]
     if not slots:
         raise Fault(f"no slice of it is called {name}", outer_path)
@@ -181,8 +181,8 @@ def accepted_flat_policy(outer_path, name, inner_path):
     """The flat policy of a division that isn't refused."""
     inner = read_pair(inner_path)
     if inner.reading.faults:
-        raise Fault("it isn't accepted: flowvisor-tool lint tells why", inner_path)
+        raise Fault("it isn't accepted: flowvisor-tool lint prints why", inner_path)
     division = divided(outer_path, name, inner)
     if any(division.faults()):
-        raise Fault(f"{name} can't be divided by it: flowvisor-tool lint --under tells why", inner_path)
+        raise Fault(f"{name} can't be divided by it: flowvisor-tool lint --under prints why", inner_path)
     return division.flat_policy()

@@ -7,7 +7,7 @@ from .packet_sets import deciding_rule, packets_of
 from .policy_text import accepted_policy
 
 NAME = "explain"
-SUMMARY = "tell who gets a packet, and by which rule"
+SUMMARY = "say who gets a packet, and by which rule"
 EPILOG = """\
 PACKET is given by its fields, as ovs-ofctl writes them (in_port=1,tcp,nw_dst=10.0.0.1,tp_dst=80), or as the bytes of
 an Ethernet frame in hex, perhaps with its port before it (in_port=1,HEX). What isn't said is 0, and a packet without

@@ -7,9 +7,9 @@ from .policy import Finding, hidden_pairs, packet_in_both, partly_read_pairs
 from .policy_forms import read_network
 
 NAME = "lint"
-SUMMARY = "tell all that is wrong with a policy"
+SUMMARY = "print all that is wrong with a policy"
 EPILOG = """\
-A fault is what flowvisor check refuses the policy for; it tells the first one alone. A warning is what it accepts, but
+A fault is what flowvisor check refuses the policy for; that prints the first one alone. A warning is what it accepts, but
 hardly was meant: a rule that never applies, bits of an address that don't count, a reader of some overlapping rules of
 a slice alone, a controller that can never be dialled, two slices with one controller. The status is 1 where there is a
 fault, and with --strict where there is a warning too. With --under what flowvisor flatten refuses is a fault too, and a

@@ -255,5 +255,5 @@ def accepted_policy(path):
     """The policy in a file. Of one that has faults no more is said: lint does that."""
     reading = read_policy_file(path)
     if reading.faults:
-        raise Fault("it isn't accepted: flowvisor-tool lint tells why", path)
+        raise Fault("it isn't accepted: flowvisor-tool lint prints why", path)
     return reading.policy

@@ -59,7 +59,7 @@ def play(network, file, arguments, is_alone):
     except Unfit as problem:
         raise Fault(f"isn't the report of the recording{problem}", arguments.file) from None
     except TooLate as problem:
-        raise Fault(f"{problem}ms is later than a capture can tell", arguments.recording or arguments.file) from None
+        raise Fault(f"{problem}ms is later than a capture can hold", arguments.recording or arguments.file) from None
 
 
 class Unfit(Exception):

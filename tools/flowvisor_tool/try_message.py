@@ -23,7 +23,7 @@ from .refusals import error_text, piece_rules, reasons
 from .trial import Site, trials
 
 NAME = "try"
-SUMMARY = "tell what becomes of a flow-mod or a packet-out"
+SUMMARY = "say what becomes of a flow-mod or a packet-out"
 USAGE = "%(prog)s [OPTION]... POLICY PACKET [ACTIONS]"
 EPILOG = """\
 PACKET is a flow as ovs-ofctl add-flow has it (priority=10,tcp,tp_dst=80), and a flow-mod is tried; or a frame in hex,

@@ -3,7 +3,7 @@ from from_pcap_cases import Case, HOSTS, OPTIONS, POLICY, SLICES, records_of, ru
 from made_captures import alice_talk, bob_talk, pcap, switch_talk, timed
 from sunworsted import SLICE_UP, record, recording
 
-NOT_ACCEPTED = "it isn't accepted: flowvisor-tool lint tells why"
+NOT_ACCEPTED = "it isn't accepted: flowvisor-tool lint prints why"
 
 
 def options():

@@ -408,7 +408,7 @@ dl_type = 2048
             outcome = self.explain(file.name, "tcp")
             self.assertEqual(
                 (outcome.status, outcome.out, outcome.err),
-                (1, "", f"flowvisor-tool: {file.name}: it isn't accepted: flowvisor-tool lint tells why\n"),
+                (1, "", f"flowvisor-tool: {file.name}: it isn't accepted: flowvisor-tool lint prints why\n"),
             )
 
     def test_other_words(self):

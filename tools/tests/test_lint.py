@@ -369,7 +369,7 @@ class Divisions(unittest.TestCase):
     def test_other_words(self):
         self.assertEqual(self.lint(self.INNER, "zoe"), (1, [], f"flowvisor-tool: {self.outer}: no slice of it is called zoe\n"))
         pathlib.Path(self.outer).write_text(TOP.replace("bob", "alice"))
-        self.assertEqual(self.lint(self.INNER)[::2], (1, f"flowvisor-tool: {self.outer}: it isn't accepted: flowvisor-tool lint tells why\n"))
+        self.assertEqual(self.lint(self.INNER)[::2], (1, f"flowvisor-tool: {self.outer}: it isn't accepted: flowvisor-tool lint prints why\n"))
 
     @needs_program
     def test_as_the_program_says(self):

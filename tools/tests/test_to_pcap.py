@@ -145,7 +145,7 @@ class Captures(unittest.TestCase):
         more = self.file("more", report.read_bytes().replace(b"end 5", b"end 6"))
         self.assert_fault(f"{more}: isn't the report of the recording, which has 5 events", more, "--recording", other)
         late = self.file("late", recording(record(Kind.SWITCH_UP, 1 << 63)))
-        self.assert_fault(f"{late}: {1 << 63}ms is later than a capture can tell", late)
+        self.assert_fault(f"{late}: {1 << 63}ms is later than a capture can hold", late)
         self.assert_fault(f"{self.folder / 'none'}: No such file or directory", self.folder / "none")
         empty = self.file("empty", b"")
         self.assert_fault(f"{empty}: torn record at 0", report, "--recording", empty)

@@ -704,7 +704,7 @@ class Screens(unittest.TestCase):
         for words, status, text in (
             ((POLICY, EXAMPLES / "none"), 1, "No such file or directory"),
             ((POLICY, EXAMPLES / "web-session.rec"), 1, "the capture is neither pcap nor pcapng"),
-            ((EXAMPLES / "web-session.rec",), 1, "it isn't accepted: flowvisor-tool lint tells why"),
+            ((EXAMPLES / "web-session.rec",), 1, "it isn't accepted: flowvisor-tool lint prints why"),
             (("--http", "10.0.0.1:80", POLICY), 2, "10.0.0.1 isn't this machine's own address; --public serves there"),
             (("--http", "localhost:80", POLICY), 2, "'localhost:80' isn't ADDRESS:PORT"),
             (("--slice", "carol=10.0.0.1:80", POLICY), 2, "'carol' is neither a slice's name in the policy nor a slot"),

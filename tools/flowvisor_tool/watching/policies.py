@@ -24,7 +24,7 @@ def watched_policy(path):
     """The policy in a file, and its slices by slot."""
     reading = read_policy_file(path)
     if reading.faults:
-        raise Fault("it isn't accepted: flowvisor-tool lint tells why", path)
+        raise Fault("it isn't accepted: flowvisor-tool lint prints why", path)
     tables = reading.document.root.content["slice"].content
     return reading.policy, {
         one.slot: SliceLimits(one.slot, one.name, one.controller, **limits_of(table.content))
