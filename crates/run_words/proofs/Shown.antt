@@ -23,6 +23,7 @@ use Rattle.of10_action.specs.Reading.{head_at, action_of, action_at, actions_at}
 use Rattle.of10_flow.specs.FlowRemoveds.{read_flow_removed}
 use Rattle.of10_message.specs.Controller.{read_controller, read_typed}
 use Rattle.port_turns.specs.Readings.{turn_in}
+use Rattle.port_turns.specs.Sent.{turn_out}
 use Rattle.of10_message.specs.Errors.{read_error, pair_in}
 use Rattle.of10_message.specs.Switch.{read_switch, read_sent}
 use Rattle.action_check.specs.ActionRules.{code_of}
@@ -43,7 +44,7 @@ use Rattle.run_words.specs.Examples.{NoRound, OneRound}
 
 -- what the examples compute with
 computing : Bool
-unfolding turn_in digits encode_with has Spell frames_at frames_of features_front read_features spell_features read_port_status spell_port_status ports_in spell_flow_mod read_packet_in spell_packet_in header_of_packet link_of tagged_link typed arp_of ipv4_of network_of transport_at transport_of probe_slot_of trailer_slot changed changed_plainly first_known kept_of with_port without_port spelled applied includes_of meet_of is_same head_at action_of action_at actions_at flow_mod_with read_flow_mod read_flow_removed read_controller read_typed read_switch read_sent read_error pair_in code_of piece_message has_room is_conforming accepted is_accepted requests remembered found book flow_mod_fault read_answer packet_told message_items all_happened read_packet_out spell_packet_out packet_to the_policy features_message drawn_round rounds packet_out_fault
+unfolding turn_in turn_out digits encode_with has Spell frames_at frames_of features_front read_features spell_features read_port_status spell_port_status ports_in spell_flow_mod read_packet_in spell_packet_in header_of_packet link_of tagged_link typed arp_of ipv4_of network_of transport_at transport_of probe_slot_of trailer_slot changed changed_plainly first_known kept_of with_port without_port spelled applied includes_of meet_of is_same head_at action_of action_at actions_at flow_mod_with read_flow_mod read_flow_removed read_controller read_typed read_switch read_sent read_error pair_in code_of piece_message has_room is_conforming accepted is_accepted requests remembered found book flow_mod_fault read_answer packet_told message_items all_happened read_packet_out spell_packet_out packet_to the_policy features_message drawn_round rounds packet_out_fault
 computing = true
 
 pub no_round_shown : NoRound
