@@ -35,7 +35,9 @@ def error_text(family, code):
 
 
 def reasons(trial):
-    """The lines that say why a message was refused, or a deleting one sends nothing."""
+    """The lines that say why a message was refused, or a deleting one sends nothing; ports are the switch's."""
+    if trial.settings.swaps:
+        yield "below, ports have the switch's own numbers"
     read = flow_mod_reasons if isinstance(trial.message, FlowMod) else packet_out_reasons
     yield from read(trial)
 
@@ -44,7 +46,7 @@ def flow_mod_reasons(trial):
     parts = piece_rules(trial)
     if not parts:
         yield "no rule that it writes has any of its packets"
-        yield from nearest_rule(trial, constraints_in(trial.message.match), conflicting, "flow")
+        yield from nearest_rule(trial, constraints_in(trial.physical.match), conflicting, "flow")
         return
     forbidden = first_forbidden(trial, [(PieceOrigin(part), rule) for part, rule in parts])
     if forbidden is not None:
@@ -56,7 +58,7 @@ def flow_mod_reasons(trial):
 
 
 def packet_out_reasons(trial):
-    message, settings = trial.message, trial.settings
+    message, settings = trial.physical, trial.settings
     if not settings.may_come_from(message.in_port):
         yield f"it comes in by port {port_of(message.in_port)}, which is neither one of its ports nor NONE nor CONTROLLER"
         yield ports_text(trial)
@@ -79,14 +81,14 @@ def piece_rules(trial):
     """The pieces of a flow-mod, each with the first rule of which it is one."""
     rules = {}
     for rule, write in zip(trial.writes, trial.settings.writes, strict=True):
-        rules.setdefault(write.meet(trial.message.match), rule)
-    return [(part, rules[part]) for part in pieces(trial.settings, trial.message.match)]
+        rules.setdefault(write.meet(trial.physical.match), rule)
+    return [(part, rules[part]) for part in pieces(trial.settings, trial.physical.match)]
 
 
 def first_forbidden(trial, origins):
     """The first action that is forbidden, of the pieces in order and in each of the actions in order; or None."""
     for origin, rule in origins:
-        for place, action in enumerate(trial.message.actions, 1):
+        for place, action in enumerate(trial.physical.actions, 1):
             try:
                 refuse_action(trial.settings, origin, action)
             except Refused as refusal:

@@ -9,6 +9,7 @@ from plain_desk.desk import Desk
 from plain_desk.events import SliceMessage, SliceUp, SwitchMessage, SwitchUp
 from plain_desk.messages import Features, FlowMod, PacketOut, Port
 from plain_desk.policy import settings_of
+from plain_desk.slice_messages import physical
 
 # What a switch may tell of itself beside its ports, under some transaction id.
 XID, BUFFERS, TABLES, CAPABILITIES, ACTIONS = 1, 256, 1, 0, 0xFFF
@@ -48,6 +49,11 @@ class Trial:
     @functools.cached_property
     def settings(self):
         return settings_of(self.site.plain, self.slot, self.site.plain.on_switch(self.site.datapath), self.site.datapath)
+
+    @functools.cached_property
+    def physical(self):
+        """The message with the switch's own port numbers."""
+        return type(self.message).read(physical(self.settings.swaps, self.message.spelled()))
 
     @functools.cached_property
     def writes(self):

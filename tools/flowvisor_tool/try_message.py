@@ -67,7 +67,8 @@ def run(arguments):
     policy = accepted_policy(arguments.policy)
     with open(arguments.policy, "rb") as file, named(arguments.policy):
         plain = read_policy(file.read())
-    message = read_message(arguments.packet, arguments.actions, arguments.command, arguments.packet_out)
+    actions = arguments.actions and arguments.actions.removeprefix("actions=")
+    message = read_message(arguments.packet, actions, arguments.command, arguments.packet_out)
     if arguments.ports is None and any(action.kind == ActionType.OUTPUT and action.value in FLOODS for action in message.actions):
         raise Fault("flood and all stand for ports that the switch has: --ports says which")
     slots = slots_of(policy, arguments.slice)
@@ -91,8 +92,8 @@ def slots_of(policy, name):
 
 
 def unnamed_switch(policy):
-    """The datapath id of a switch that no rule names."""
-    named_ones = {rule.pattern.switch for rule in policy.rules}
+    """The datapath id of a switch that no rule and no port table names."""
+    named_ones = {one.switch for one in (*(rule.pattern for rule in policy.rules), *policy.swaps)}
     return next(number for number in range(1, len(named_ones) + 2) if number not in named_ones)
 
 

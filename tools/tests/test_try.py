@@ -9,6 +9,7 @@ from program import needs_program, run_program
 from running import EXAMPLES, run_tool
 from sunworsted import SLICE_BYTES, SLICE_UP, SWITCH_BYTES, SWITCH_DOWN, SWITCH_UP, features_reply, record, recording, tcp_packet
 from test_explain import DATAPATH, NAMES, FrameMaker, policy_text
+from test_watch import UPLINKS
 
 from flowvisor_tool import try_message
 from flowvisor_tool.faults import Fault
@@ -340,6 +341,22 @@ class Command(unittest.TestCase):
             self.assertEqual(heads, {"switch 00000000000000a1", "switch 00000000000000b2", "any other switch"})
             sent = [line for line in run_tool("try", "--switch", "00000000000000b2", file.name, "vlan_tci=0x0000", "1").out.splitlines() if "sent by" in line]
             self.assertTrue(sent and all(re.match(r"alice: sent by rule \d", line) for line in sent), sent)
+
+    def test_ports_of_its_own(self):
+        with tempfile.NamedTemporaryFile("w", suffix=".toml") as file:
+            file.write(UPLINKS)
+            file.flush()
+            for words, lines in (
+                (["in_port=1", "1"], ["sent by rule 1 (line 12): priority=32768,send_flow_rem,in_port=2,actions=output:2"]),
+                (["in_port=2", "actions=output:1"], [
+                    "refused: type 3 (OFPET_FLOW_MOD_FAILED), code 2 (OFPFMFC_EPERM)", "below, ports have the switch's own numbers",
+                    "no rule that it writes has any of its packets", "nearest is rule 1 (line 12)", "not by in_port = 2: the flow has 1"]),
+                (["in_port=1", "2"], [
+                    "refused: type 2 (OFPET_BAD_ACTION), code 4 (OFPBAC_BAD_OUT_PORT)", "below, ports have the switch's own numbers",
+                    "by action 1, output:1, of the piece by rule 1 (line 12)", "port 1 isn't one of its ports", "its ports are 2 by rule 1 (line 12)"]),
+            ):
+                told = run_tool("try", "--slice", "bob", file.name, *words).out.splitlines()
+                self.assertEqual(told[1:], ["bob: " + line for line in lines])
 
     def test_what_cannot_be_tried(self):
         for words, why in (

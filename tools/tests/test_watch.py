@@ -38,6 +38,27 @@ UP = [
     "switch 00000000000000a1: bob: up: 127.0.0.1:6634",
 ]
 ALICE, BOB = 0, 1
+# Bob calls port 2 his port 1.
+UPLINKS = """version = 2
+[[slice]]
+name = "alice"
+controller = "127.0.0.1:6633"
+[[slice]]
+name = "bob"
+controller = "127.0.0.1:6634"
+[[rule]]
+priority = 10
+write = "alice"
+in_port = 1
+[[rule]]
+priority = 10
+write = "bob"
+in_port = 2
+[[port]]
+slice = "bob"
+shown = 1
+physical = 2
+"""
 OTHER_SWITCH = 0xB2
 SEED = 20
 
@@ -199,6 +220,22 @@ class Refusals(unittest.TestCase):
             self.assertTrue(told.endswith("OFPBAC_BAD_OUT_PORT: port 9 isn't one to which alice may send"), told)
             told = self.refused((2, 4), packet_out(tcp_packet(80), output(0xFFFA)), policy=path)
             self.assertTrue(told.endswith("port NORMAL isn't one to which alice may send"), told)
+
+    def test_ports_of_its_own(self):
+        def match(port):
+            return (0x3820FE).to_bytes(4) + port.to_bytes(2) + bytes(34)
+
+        with policy_file(UPLINKS) as path:
+            told = self.refused((3, 2), flow_mod(match(2), output(1)), BOB, path)
+            self.assertTrue(told.endswith("it is outside bob: rule 0 (line 8), of alice, has all of its packets"), told)
+            told = self.refused((2, 4), flow_mod(match(1), output(1) + output(2)), BOB, path)
+            self.assertTrue(told.endswith("port 2 isn't one to which bob may send"), told)
+
+    def test_messages_that_are_cut(self):
+        for kind, most in ((Kind.PACKET_OUT, 16), (Kind.FLOW_MOD, 80)):
+            for size in range(8, most + 1):
+                for error in ((1, 5), (1, 6), (2, 4), (3, 2)):
+                    self.refused(error, message(kind, 3, bytes(size - 8)))
 
     def test_what_else_is_answered(self):
         self.assertEqual(

@@ -17,6 +17,9 @@ FLOW_MOD_START = struct.Struct(">40sQHHHH")
 FLOW_MOD_SIZE = HEADER.size + FLOW_MOD_START.size
 FLAGS_AT, ACTIONS_AT = 70, 72
 PACKET_OUT_START = struct.Struct(">IHH")
+FREE_IN_PORT = 1  # in a match's wildcards
+# How long a message is at least of which more is read than its header.
+LEAST = {MessageType.FLOW_MOD: ACTIONS_AT, MessageType.PACKET_OUT: HEADER.size + PACKET_OUT_START.size}
 EPERM, FLOW_EPERM, BAD_PORT, TABLES_FULL = (1, 5), (3, 2), (2, 4), (3, 0)
 # What the codes mean that this proxy answers by itself, and some that a switch does.
 WORDS = {
@@ -57,6 +60,7 @@ class Refusals:
 
         `data` is what the error has of the message, and `message` the whole of it, where it is known.
         """
+        message = message if is_long_enough(message) else None
         why = self.reason(one, datapath, (kind, code), data, message)
         return f"{self.refused(data, message)}: {code_text(kind, code)}" + (f": {why}" if why else "")
 
@@ -84,7 +88,7 @@ class Refusals:
         """A flow-mod none of whose packets the slice writes: whose they are."""
         if message and int.from_bytes(message[FLAGS_AT:ACTIONS_AT], "big") & FlowModFlag.EMERG:
             return "emergency entries aren't taken"
-        match = data[HEADER.size : HEADER.size + 40]
+        match = self.physical_match(one, datapath, data[HEADER.size : HEADER.size + 40])
         found = list(self.audience.rules_meeting(match, datapath))
         if not found:
             return f"it is outside {one.name}: no rule has any of its packets"
@@ -114,12 +118,23 @@ class Refusals:
         if buffer != NO_BUFFER:
             return ""
         packet = message[HEADER.size + PACKET_OUT_START.size + size :]
-        header = header_of(in_port, packet)
+        header = header_of(self.physical(one, datapath, in_port), packet)
         if any(self.writes_aside(rule, one, header, datapath) for rule in self.audience.rules):
             return ""
         rule = self.audience.rule_of_header(header, datapath)
         whose = f"{rule}, {owner(rule)}, has it" if rule else "no rule has it"
         return f"its packet is outside {one.name}: {packet_text(header)}: {whose}"
+
+    def physical(self, one, datapath, port):
+        """The switch's own number of a port that a slice names."""
+        return self.audience.policy.shown_port(one.name, datapath, port)
+
+    def physical_match(self, one, datapath, match):
+        """A match of a slice with the switch's own number, where it names a port of entry."""
+        if match[3] & FREE_IN_PORT:
+            return match
+        port = self.physical(one, datapath, int.from_bytes(match[4:6], "big"))
+        return match[:4] + port.to_bytes(2, "big") + match[6:]
 
     @staticmethod
     def writes_aside(rule, one, header, datapath):
@@ -129,9 +144,14 @@ class Refusals:
     def bad_port(self, one, datapath, data, message):
         """An action that names a port which the slice may not send to."""
         for port in output_ports(data, message):
-            if not self.audience.may_send_to(one.name, port, datapath):
+            if not self.audience.may_send_to(one.name, self.physical(one, datapath, port), datapath):
                 return f"port {port_of(port)} isn't one to which {one.name} may send"
         return "it names a port that isn't the slice's"
+
+
+def is_long_enough(message):
+    """Whether a message has what stands in each of its type before its actions."""
+    return bool(message) and len(message) >= HEADER.size and len(message) >= LEAST.get(Header.of(message).type, HEADER.size)
 
 
 def owner(rule):
