@@ -17,14 +17,15 @@ import cases_of_captures
 import cases_of_connections
 import cases_of_switches
 from from_pcap_cases import one, records_of, small_run, small_run_6
-from made_captures import Talk, pcap, pcapng, timed
+from made_captures import Talk, enhanced, ethernet, interface, pcap, pcap_head, pcap_packet, pcapng, section, timed
 from watched import POLICY, START, SWITCH, Scene, Watched, busy_scene, policy_file
 
 from devices.messages import Kind, any_match, flow_mod, output, packet_out, port_match
 from devices.traffic import ACK, FIN, RST, SYN, Connection, Site, Wire, slice_flow_mod
 from flowvisor_tool.ends import end_of
 from flowvisor_tool.watching.following import KEPT, MOST_LINKS
-from flowvisor_tool.watching.links import Link
+from flowvisor_tool.watching.growing import LARGEST_PACKET
+from flowvisor_tool.watching.links import MOST_HELD_BYTES, Link
 from flowvisor_tool.watching.matching import spelled_anew
 from flowvisor_tool.watching.parties import MOST_CODES, Room
 from flowvisor_tool.watching.screen import LEAST_COLUMNS, lines_of, rows_of, screen_of
@@ -596,6 +597,28 @@ class Hostile(unittest.TestCase):
         watched = scene.watched()
         for one_link in watched.watcher.follower.links:
             self.assertLessEqual(len(one_link.peer.held), 64)
+
+    def test_long_segments_behind_gaps(self):
+        """A segment may be longer than an IPv4 packet says, which has a length of 0 then; each is behind a gap of its own."""
+        talk = Talk("10.1.0.161:5000", "10.0.0.1:6653")
+        for sizes in ((1, LARGEST_PACKET - 100), (LARGEST_PACKET - 100, 1), (1, 1, LARGEST_PACKET - 100, 1), (100_000,) * 3):
+            watched = Watched()
+            watched.watcher.feed(pcap(timed(talk.opening())))
+            at, most = 100, 0
+            for moment, size in enumerate(sizes, 3):
+                watched.watcher.feed(pcap_packet(moment, ethernet(talk.from_client(at, bytes(size), length=0))))
+                at += size + 100
+                (link,) = watched.watcher.follower.links
+                self.assertEqual(link.peer.held_bytes, sum(len(payload) for _place, _size, payload in link.peer.held))
+                self.assertLessEqual(link.peer.held_bytes, MOST_HELD_BYTES)
+                most = max(most, link.peer.held_bytes)
+            self.assertEqual((most > 0, watched.watcher.follower.unreadable), (True, 0))
+
+    def test_the_largest_packet(self):
+        for record in (pcap_packet, enhanced):
+            for size, fault in ((LARGEST_PACKET, None), (LARGEST_PACKET + 1, "the capture is damaged here: a length is out of range")):
+                head = pcap_head() if record is pcap_packet else section() + interface()
+                self.assertEqual(Watched().see(head + record(0, bytes(size))), fault and f"packet 1: {fault}")
 
 
 class Screens(unittest.TestCase):

@@ -62,12 +62,12 @@ class Side:
             self.take_held()
 
     def hold(self, time, gap, payload, size):
-        """Keeps a segment behind a gap."""
+        """Keeps a segment behind a gap, and gives gaps up, the first ones first, until what is kept is in bounds."""
         if not self.held:
             self.held_since = time
         heapq.heappush(self.held, (self.taken + gap, size, payload))
         self.held_bytes += len(payload)
-        if len(self.held) > MOST_HELD or self.held_bytes > MOST_HELD_BYTES:
+        while self.held and (len(self.held) > MOST_HELD or self.held_bytes > MOST_HELD_BYTES):
             self.give_up_gap()
 
     def take(self, payload, size):
