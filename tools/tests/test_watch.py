@@ -100,6 +100,62 @@ class Connections(unittest.TestCase):
         self.assertEqual(told_after(scene)[1:], [
             "switch at 10.1.9.9:5000: down: the proxy ended it without a greeting: it has no place for another switch"])
 
+    def call_the_proxy(self, scene, number, data=b"", flags=FIN | ACK):
+        """Somebody who is no switch connects, may send something, and ends the connection."""
+        link = Connection(scene.site.wire, (bytes([10, 9, number >> 8, number & 0xFF]), 5000), Site.PROXY)
+        link.open()
+        if data:
+            link.send(link.client, data)
+        link.finish(link.client, flags)
+
+    def names(self, watched):
+        return [switch["name"] for switch in watched.watcher.state()["switches"]]
+
+    def test_who_connects_and_says_nothing_is_no_switch(self):
+        scene = Scene()
+        scene.site.connect_switch(OTHER_SWITCH)
+        scene.site.lose_switch(OTHER_SWITCH)
+        for number in range(2 * MOST_SWITCHES):
+            self.call_the_proxy(scene, number, flags=(FIN | ACK, RST)[number % 2])
+            scene.wait(2)
+        watched = scene.watched()
+        self.assertEqual(self.names(watched), ["00000000000000a1", "00000000000000b2"])
+        self.assertEqual((watched.switch()["up"], watched.watcher.world.forgotten), (True, 0))
+        self.assertIn("switch at 10.9.0.3:5000: down: the switch reset it", watched.told)
+
+    def test_who_never_says_which_switch_it_is_goes_first(self):
+        scene = Scene()
+        scene.site.connect_switch(OTHER_SWITCH)
+        scene.site.lose_switch(OTHER_SWITCH)
+        for number in range(2 * MOST_SWITCHES):
+            self.call_the_proxy(scene, number, b"GET / HTTP/1.1\r\n\r\n")
+            scene.wait(2)
+        watched = scene.watched()
+        names = self.names(watched)
+        self.assertEqual((names[:2], len(names)), (["00000000000000a1", "00000000000000b2"], MOST_SWITCHES))
+        self.assertIn(f"at 10.9.0.{2 * MOST_SWITCHES - 1}:5000", names)
+        self.assertEqual(watched.watcher.world.forgotten, 0)
+        for number in range(2 * MOST_SWITCHES):
+            Connection(scene.site.wire, (bytes([10, 8, 0, number]), 5000), Site.PROXY).open()
+        names = self.names(scene.watched())
+        self.assertEqual((names[0], len(names)), ("00000000000000a1", MOST_SWITCHES))
+
+    def test_a_controller_of_who_was_no_switch(self):
+        """The proxy's connection was taken for that of the only one there: it goes to the switch that it is told of."""
+        scene = Scene(connect=False)
+        link = Connection(scene.site.wire, (Site.host(OTHER_SWITCH), 5000), Site.PROXY)
+        link.open()
+        alice = scene.site.controllers[SWITCH, ALICE] = Connection(scene.site.wire, (Site.PROXY[0], 7), Site.ALICE)
+        alice.open()
+        link.finish(link.client)
+        watched = scene.watched()
+        self.assertEqual(self.names(watched), [])
+        self.assertEqual([stray["up"] for stray in watched.watcher.state()["strays"]], [True])
+        scene.site.connect_switch(SWITCH)
+        scene.to_controller(ALICE, features_reply(2, SWITCH, (1,)))
+        watched = scene.watched()
+        self.assertEqual((watched.slice("alice")["up"], watched.watcher.state()["strays"]), (True, []))
+
     def test_calls_that_come_to_nothing(self):
         for answer, reason in ((RST | ACK, "nobody listens there"), (None, "has not answered")):
             scene = Scene()

@@ -76,9 +76,9 @@ class World:
         self.tell(f"switch {switch.name()}: {'was connected before the capture began' if link.is_late else 'connected'}")
 
     def make_room(self):
-        """Forgets the switch that is gone for the longest time, where there are too many."""
+        """Forgets a switch where there are too many: one that is gone, and first one that never said which it is."""
         if len(self.switches) >= MOST_SWITCHES:
-            gone = min(self.switches, key=lambda switch: (switch.is_up, switch.since))
+            gone = min(self.switches, key=lambda switch: (switch.is_up, switch.datapath is not None, switch.since))
             if gone.link is not None:
                 gone.link.view = None
             for here in gone.slices.values():
@@ -86,7 +86,14 @@ class World:
                     here.link.view = None
             self.switches.remove(gone)
             gone.forget_entries()
-            self.forgotten += 1
+            self.forgotten += gone.is_up or gone.datapath is not None
+
+    def drop(self, switch):
+        """Keeps nothing of what wasn't a switch. Of which one its slices' connections are isn't known then."""
+        self.switches.remove(switch)
+        for here in switch.slices.values():
+            if here.link is not None and len(self.strays) < MOST_STRAYS:
+                self.strays[here.link] = here
 
     def controller_up(self, link):
         """The proxy has connected to a controller, for a switch."""
@@ -140,6 +147,8 @@ class World:
         switch = self.switch_of(view)
         if link.role == SWITCH:
             self.tell(f"switch {view.name()}: down: {reason}")
+            if view.datapath is None and not link.peer.taken and not link.is_late:
+                self.drop(view)
         elif switch is not None:
             self.tell(f"switch {switch.name()}: {self.slices[link.role].name}: down: {reason}")
 
