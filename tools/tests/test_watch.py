@@ -25,7 +25,7 @@ from devices.traffic import ACK, FIN, RST, SYN, Connection, Site, Wire, slice_fl
 from flowvisor_tool.ends import end_of
 from flowvisor_tool.watching.following import KEPT, MOST_LINKS
 from flowvisor_tool.watching.growing import LARGEST_PACKET
-from flowvisor_tool.watching.links import MOST_HELD_BYTES, Link
+from flowvisor_tool.watching.links import MOST_HELD_BYTES, Link, State
 from flowvisor_tool.watching.matching import spelled_anew
 from flowvisor_tool.watching.parties import MOST_CODES, Room
 from flowvisor_tool.watching.screen import LEAST_COLUMNS, lines_of, rows_of, screen_of
@@ -619,6 +619,26 @@ class Hostile(unittest.TestCase):
         self.assertLessEqual(len(watched.watcher.follower.sides), 2 * MOST_LINKS)
         self.assertLessEqual(len(watched.watcher.world.switches), MOST_SWITCHES)
         self.assertLessEqual(len(watched.watcher.world.happenings), MOST_HAPPENINGS)
+
+    def test_calls_push_no_connection_out_that_is_up(self):
+        """So with a few that are up, and with as many as there is room for but for a quarter, or for one."""
+        for up in (3, MOST_LINKS * 7 // 8, MOST_LINKS - 1):
+            scene = Scene()
+            for number in range(up - 3):
+                Connection(scene.site.wire, (bytes([10, 3, number >> 8, number & 0xFF]), 1000), Site.BOB).open()
+            scene.wait(10)
+            for number in range(2 * MOST_LINKS):
+                talk = bytes([10, 2, number >> 8, number & 0xFF]), 1000
+                scene.site.wire.put(talk, Site.PROXY, 1, 0, SYN)
+                if number == 9:  # one of them has ended
+                    scene.site.wire.put(Site.PROXY, talk, 0, 2, RST | ACK)
+                scene.wait(1e-3)
+            watched = scene.watched()
+            links = list(watched.watcher.follower.links)
+            self.assertLessEqual(len(links), MOST_LINKS)
+            self.assertEqual(sum(link.state is State.UP for link in links), up)
+            self.assertEqual([one["up"] for one in (watched.switch(), *watched.switch()["slices"])], [True] * 3)
+            self.assertIn(number, [int.from_bytes(link.client[0][2:], "big") for link in links if link.state is State.CALLED])
 
     def test_connections_that_are_over_are_freed_without_a_collection(self):
         scene = Scene()
