@@ -187,6 +187,20 @@ class Connections(unittest.TestCase):
         scene.to_switch(message(Kind.ECHO_REPLY, 1, b""))
         self.assertIn("switch 00000000000000a1: alice: answers again", scene.watched().told)
 
+    def test_for_how_long_it_is_silent(self):
+        """A second without a packet counts, too; a clock that is set back counts nothing."""
+        scene = Scene()
+        link = scene.link(ALICE)
+        for wait in (1, 1, 40, 0.25, -1000):
+            scene.site.wire.put(link.client, link.server, link.at[link.client], link.at[link.server], ACK, bytes(8))
+            scene.wait(wait)
+        watched = scene.watched()
+        self.assertEqual(watched.slice("alice")["reason"], "silent for 42 s: what is sent isn't acknowledged")
+        scene.from_controller(BOB, message(Kind.ECHO_REQUEST, 1, b""))
+        watched = scene.watched()
+        labels = 'switch="00000000000000a1",slice="alice"'
+        self.assertIn(f"flowvisor_slice_silent_seconds{{{labels}}} 42\n", watched.watcher.metrics_text())
+
     def test_two_switches_at_once(self):
         """Both are up before any controller is called: the features that the proxy tells say which connection is whose."""
         scene = Scene(connect=False)

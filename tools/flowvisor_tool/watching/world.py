@@ -216,20 +216,21 @@ class World:
         # A packet may be a little older than the one before, or than the clock.
         if self.second - LATEST <= second <= self.second:
             return
+        passed = max(0, second - self.second)
         for switch in self.switches:
-            self.tick_switch(switch)
+            self.tick_switch(switch, passed)
         for stray in self.strays.values():
-            stray.count(self.second, 0)
+            stray.count(self.second, passed, 0)
         self.second = second
 
-    def tick_switch(self, switch):
+    def tick_switch(self, switch, passed):
         """Counts what a second had of a switch."""
         nobody, switch.nobody_before = switch.nobody - switch.nobody_before, switch.nobody
         if nobody > switch.nobody_told:
             self.tell(f"switch {switch.name()}: {nobody - switch.nobody_told} packets more for nobody in this second")
         switch.nobody_told = 0
         was_silent = switch.silent
-        switch.count(self.second, nobody)
+        switch.count(self.second, passed, nobody)
         self.tell_silence(switch, was_silent, f"switch {switch.name()}")
         for here in switch.slices.values():
             total = sum(here.refused.values())
@@ -239,7 +240,7 @@ class World:
                 self.tell(f"switch {switch.name()}: {name}: {refused - here.told} messages more refused in this second")
             here.told = 0
             was_silent = here.silent
-            here.count(self.second, refused)
+            here.count(self.second, passed, refused)
             self.tell_silence(here, was_silent, f"switch {switch.name()}: {name}")
 
     def tell_silence(self, party, was_silent, who):
