@@ -505,6 +505,24 @@ class Lacking(unittest.TestCase):
             self.assertEqual(watched.watcher.world.switches[0].sent.totals()[Kind.ECHO_REQUEST], 40)
             self.assertEqual((watched.watcher.follower.missing(), watched.watcher.follower.unread()), (0, 0))
 
+    def test_a_packet_that_is_a_little_older(self):
+        """It is of the second before: neither a gap is given up by that, nor a connection forgotten that has just ended."""
+        scene = Scene()
+        link, alice = scene.link(), scene.link(ALICE)
+        at, echo = link.at[link.client], message(Kind.ECHO_REQUEST, 1, b"")
+        scene.wait(1.0001)
+        scene.site.wire.put(link.client, link.server, at + len(echo), link.at[link.server], ACK, echo)
+        alice.finish(alice.server)
+        scene.wait(-0.0002)
+        scene.from_controller(BOB, echo)
+        scene.wait(0.0004)
+        scene.site.wire.put(link.client, link.server, at, link.at[link.server], ACK, echo)
+        alice.send(alice.client, echo)
+        watched = scene.watched()
+        self.assertEqual(watched.told[len(UP) :], ["switch 00000000000000a1: alice: down: its controller ended it"])
+        self.assertEqual(watched.watcher.follower.missing(), 0)
+        self.assertEqual(watched.watcher.world.switches[0].sent.totals()[Kind.ECHO_REQUEST], 2)
+
     def test_packets_that_were_cut(self):
         scene = Scene()
         cut = []

@@ -6,7 +6,7 @@ from ..captures import Packet, Problem
 from ..connections import SWITCH
 from ..openflow.ethernet import IPV4, TCP
 from ..segments import ACK, FIN, RST, SYN, datagram_of, segment_of
-from .links import SEQUENCES, How, Link, State
+from .links import LATEST, SEQUENCES, How, Link, State
 from .messages import Certainty, Messages
 
 MOST_LINKS = 1024
@@ -240,7 +240,7 @@ class Follower:
             if link.state is State.UP:
                 link.peer.check_gap(time)
                 link.proxy.check_gap(time)
-            elif not 0 <= time - link.since < KEPT:
+            elif not -LATEST <= time - link.since < KEPT:
                 self.end(link, None, How.FORGOTTEN)
                 self.drop(link)
 

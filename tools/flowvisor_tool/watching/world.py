@@ -5,12 +5,10 @@ import datetime
 from ..connections import SWITCH
 from ..ends import spelled
 from .hearing import Hearing
-from .links import How
+from .links import LATEST, How
 from .parties import SILENT, Room, SliceHere, SwitchHere
 
 MOST_SWITCHES, MOST_STRAYS, MOST_HAPPENINGS = 64, 64, 200
-# How many seconds a clock may go back without being taken as set anew.
-LATEST = 5
 
 
 def moment_text(time):
