@@ -746,10 +746,10 @@ class Screens(unittest.TestCase):
                 "  from it 1/s (PACKET_IN 1)   to it 1/s (FLOW_MOD 1)",
                 "  alice  127.0.0.1:6633  up since 22:13:20 (1s)",
                 "    from it 1/s (FLOW_MOD 1)   to it 1/s (PACKET_IN 1)",
-                "    flow-mods 1, as 1 to the switch; refused 0; entries 1 of 1024; rate 1 of 1000/s",
+                "    flow-mods 1, as 1 to the switch; messages refused 0; entries 1 of 1024; rate 1 of 1000/s",
                 "  bob  127.0.0.1:6634  up since 22:13:20 (1s)",
                 "    from it 1/s (FLOW_MOD 1)   to it 1/s (ERROR 1)",
-                "    flow-mods 1, as 0 to the switch; refused 1 (1 OFPET_FLOW_MOD_FAILED OFPFMFC_EPERM); "
+                "    flow-mods 1, as 0 to the switch; messages refused 1 (1 OFPET_FLOW_MOD_FAILED OFPFMFC_EPERM); "
                 "entries 0 of 1024; rate 1 of 1000/s",
             ])
             log = run_tool("watch", "--to-end", "--log", path, capture).out.splitlines()
@@ -769,6 +769,20 @@ class Screens(unittest.TestCase):
         self.assertIn("1000/s", screen)
         self.assertIn("rule 0 (line", screen)
         self.assertIn("OFPET_FLOW_MOD_FAILED OFPFMFC_EPERM", screen)
+
+    def test_all_types_and_codes_are_shown(self):
+        scene = Scene()
+        scene.wait(1)
+        kinds = Kind.ECHO_REQUEST, Kind.ECHO_REPLY, Kind.PACKET_OUT, Kind.FLOW_MOD, Kind.STATS_REQUEST, Kind.BARRIER_REQUEST
+        for kind in kinds:
+            scene.from_controller(ALICE, message(kind, 1, bytes(80)))
+        for code in range(6):
+            scene.to_controller(ALICE, message(Kind.ERROR, 1, struct.pack(">HH", 99, code)))
+        rows = list(rows_of(scene.watched().watcher.state()))
+        (rates,) = (row for row in rows if "ECHO_REQUEST" in row and "ECHO_REPLY" in row)
+        self.assertIn(f"from it 6/s ({', '.join(f'{kind.name} 1' for kind in kinds)})", rates)
+        (counts,) = (row for row in rows if "99 0" in row and "entries" in row)
+        self.assertIn(f"; messages refused 6 ({', '.join(f'1 99 {code}' for code in range(6))}); ", counts)
 
     def test_lines_of_a_row(self):
         for row, columns, lines in (

@@ -83,7 +83,7 @@ class Served(unittest.TestCase):
         self.assertIn("<polyline", done.stdout)
         for told in (
             "switch 00000000000000a1", "flow-mods: 3, as 3 to the switch", "down since 22:13:21 (0 s): its controller ended it",
-            "refused: 1 OFPET_FLOW_MOD_FAILED OFPFMFC_EPERM", "packets for nobody: 1", "bob: down: its controller ended it",
+            "messages refused: 1 OFPET_FLOW_MOD_FAILED OFPFMFC_EPERM", "packets for nobody: 1", "bob: down: its controller ended it",
         ):
             self.assertIn(told, text)
 
