@@ -17,14 +17,15 @@ import cases_of_captures
 import cases_of_connections
 import cases_of_switches
 from from_pcap_cases import one, records_of, small_run, small_run_6
-from made_captures import Talk, pcap, pcapng, timed
+from made_captures import Talk, enhanced, ethernet, interface, pcap, pcap_head, pcap_packet, pcapng, section, timed
 from watched import POLICY, START, SWITCH, Scene, Watched, busy_scene, policy_file
 
 from devices.messages import Kind, any_match, flow_mod, output, packet_out, port_match
 from devices.traffic import ACK, FIN, RST, SYN, Connection, Site, Wire, slice_flow_mod
 from flowvisor_tool.ends import end_of
 from flowvisor_tool.watching.following import KEPT, MOST_LINKS
-from flowvisor_tool.watching.links import Link
+from flowvisor_tool.watching.growing import LARGEST_PACKET
+from flowvisor_tool.watching.links import MOST_HELD_BYTES, Link, State
 from flowvisor_tool.watching.matching import spelled_anew
 from flowvisor_tool.watching.parties import MOST_CODES, Room
 from flowvisor_tool.watching.screen import LEAST_COLUMNS, lines_of, rows_of, screen_of
@@ -120,6 +121,62 @@ class Connections(unittest.TestCase):
         self.assertEqual(told_after(scene)[1:], [
             "switch at 10.1.9.9:5000: down: the proxy ended it without a greeting: it has no place for another switch"])
 
+    def call_the_proxy(self, scene, number, data=b"", flags=FIN | ACK):
+        """Somebody who is no switch connects, may send something, and ends the connection."""
+        link = Connection(scene.site.wire, (bytes([10, 9, number >> 8, number & 0xFF]), 5000), Site.PROXY)
+        link.open()
+        if data:
+            link.send(link.client, data)
+        link.finish(link.client, flags)
+
+    def names(self, watched):
+        return [switch["name"] for switch in watched.watcher.state()["switches"]]
+
+    def test_who_connects_and_says_nothing_is_no_switch(self):
+        scene = Scene()
+        scene.site.connect_switch(OTHER_SWITCH)
+        scene.site.lose_switch(OTHER_SWITCH)
+        for number in range(2 * MOST_SWITCHES):
+            self.call_the_proxy(scene, number, flags=(FIN | ACK, RST)[number % 2])
+            scene.wait(2)
+        watched = scene.watched()
+        self.assertEqual(self.names(watched), ["00000000000000a1", "00000000000000b2"])
+        self.assertEqual((watched.switch()["up"], watched.watcher.world.forgotten), (True, 0))
+        self.assertIn("switch at 10.9.0.3:5000: down: the switch reset it", watched.told)
+
+    def test_who_never_says_which_switch_it_is_goes_first(self):
+        scene = Scene()
+        scene.site.connect_switch(OTHER_SWITCH)
+        scene.site.lose_switch(OTHER_SWITCH)
+        for number in range(2 * MOST_SWITCHES):
+            self.call_the_proxy(scene, number, b"GET / HTTP/1.1\r\n\r\n")
+            scene.wait(2)
+        watched = scene.watched()
+        names = self.names(watched)
+        self.assertEqual((names[:2], len(names)), (["00000000000000a1", "00000000000000b2"], MOST_SWITCHES))
+        self.assertIn(f"at 10.9.0.{2 * MOST_SWITCHES - 1}:5000", names)
+        self.assertEqual(watched.watcher.world.forgotten, 0)
+        for number in range(2 * MOST_SWITCHES):
+            Connection(scene.site.wire, (bytes([10, 8, 0, number]), 5000), Site.PROXY).open()
+        names = self.names(scene.watched())
+        self.assertEqual((names[0], len(names)), ("00000000000000a1", MOST_SWITCHES))
+
+    def test_a_controller_of_who_was_no_switch(self):
+        """The proxy's connection was taken for that of the only one there: it goes to the switch that it is told of."""
+        scene = Scene(connect=False)
+        link = Connection(scene.site.wire, (Site.host(OTHER_SWITCH), 5000), Site.PROXY)
+        link.open()
+        alice = scene.site.controllers[SWITCH, ALICE] = Connection(scene.site.wire, (Site.PROXY[0], 7), Site.ALICE)
+        alice.open()
+        link.finish(link.client)
+        watched = scene.watched()
+        self.assertEqual(self.names(watched), [])
+        self.assertEqual([stray["up"] for stray in watched.watcher.state()["strays"]], [True])
+        scene.site.connect_switch(SWITCH)
+        scene.to_controller(ALICE, features_reply(2, SWITCH, (1,)))
+        watched = scene.watched()
+        self.assertEqual((watched.slice("alice")["up"], watched.watcher.state()["strays"]), (True, []))
+
     def test_calls_that_come_to_nothing(self):
         for answer, reason in ((RST | ACK, "nobody listens there"), (None, "has not answered")):
             scene = Scene()
@@ -150,6 +207,20 @@ class Connections(unittest.TestCase):
         scene.wait(1)
         scene.to_switch(message(Kind.ECHO_REPLY, 1, b""))
         self.assertIn("switch 00000000000000a1: alice: answers again", scene.watched().told)
+
+    def test_for_how_long_it_is_silent(self):
+        """A second without a packet counts, too; a clock that is set back counts nothing."""
+        scene = Scene()
+        link = scene.link(ALICE)
+        for wait in (1, 1, 40, 0.25, -1000):
+            scene.site.wire.put(link.client, link.server, link.at[link.client], link.at[link.server], ACK, bytes(8))
+            scene.wait(wait)
+        watched = scene.watched()
+        self.assertEqual(watched.slice("alice")["reason"], "silent for 42 s: what is sent isn't acknowledged")
+        scene.from_controller(BOB, message(Kind.ECHO_REQUEST, 1, b""))
+        watched = scene.watched()
+        labels = 'switch="00000000000000a1",slice="alice"'
+        self.assertIn(f"flowvisor_slice_silent_seconds{{{labels}}} 42\n", watched.watcher.metrics_text())
 
     def test_two_switches_at_once(self):
         """Both are up before any controller is called: the features that the proxy tells say which connection is whose."""
@@ -471,6 +542,24 @@ class Lacking(unittest.TestCase):
             self.assertEqual(watched.watcher.world.switches[0].sent.totals()[Kind.ECHO_REQUEST], 40)
             self.assertEqual((watched.watcher.follower.missing(), watched.watcher.follower.unread()), (0, 0))
 
+    def test_a_packet_that_is_a_little_older(self):
+        """It is of the second before: neither a gap is given up by that, nor a connection forgotten that has just ended."""
+        scene = Scene()
+        link, alice = scene.link(), scene.link(ALICE)
+        at, echo = link.at[link.client], message(Kind.ECHO_REQUEST, 1, b"")
+        scene.wait(1.0001)
+        scene.site.wire.put(link.client, link.server, at + len(echo), link.at[link.server], ACK, echo)
+        alice.finish(alice.server)
+        scene.wait(-0.0002)
+        scene.from_controller(BOB, echo)
+        scene.wait(0.0004)
+        scene.site.wire.put(link.client, link.server, at, link.at[link.server], ACK, echo)
+        alice.send(alice.client, echo)
+        watched = scene.watched()
+        self.assertEqual(watched.told[len(UP) :], ["switch 00000000000000a1: alice: down: its controller ended it"])
+        self.assertEqual(watched.watcher.follower.missing(), 0)
+        self.assertEqual(watched.watcher.world.switches[0].sent.totals()[Kind.ECHO_REQUEST], 2)
+
     def test_packets_that_were_cut(self):
         scene = Scene()
         cut = []
@@ -600,6 +689,26 @@ class Hostile(unittest.TestCase):
         self.assertLessEqual(len(watched.watcher.world.switches), MOST_SWITCHES)
         self.assertLessEqual(len(watched.watcher.world.happenings), MOST_HAPPENINGS)
 
+    def test_calls_push_no_connection_out_that_is_up(self):
+        """So with a few that are up, and with as many as there is room for but for a quarter, or for one."""
+        for up in (3, MOST_LINKS * 7 // 8, MOST_LINKS - 1):
+            scene = Scene()
+            for number in range(up - 3):
+                Connection(scene.site.wire, (bytes([10, 3, number >> 8, number & 0xFF]), 1000), Site.BOB).open()
+            scene.wait(10)
+            for number in range(2 * MOST_LINKS):
+                talk = bytes([10, 2, number >> 8, number & 0xFF]), 1000
+                scene.site.wire.put(talk, Site.PROXY, 1, 0, SYN)
+                if number == 9:  # one of them has ended
+                    scene.site.wire.put(Site.PROXY, talk, 0, 2, RST | ACK)
+                scene.wait(1e-3)
+            watched = scene.watched()
+            links = list(watched.watcher.follower.links)
+            self.assertLessEqual(len(links), MOST_LINKS)
+            self.assertEqual(sum(link.state is State.UP for link in links), up)
+            self.assertEqual([one["up"] for one in (watched.switch(), *watched.switch()["slices"])], [True] * 3)
+            self.assertIn(number, [int.from_bytes(link.client[0][2:], "big") for link in links if link.state is State.CALLED])
+
     def test_connections_that_are_over_are_freed_without_a_collection(self):
         scene = Scene()
         for _time in range(100):
@@ -634,6 +743,28 @@ class Hostile(unittest.TestCase):
         for one_link in watched.watcher.follower.links:
             self.assertLessEqual(len(one_link.peer.held), 64)
 
+    def test_long_segments_behind_gaps(self):
+        """A segment may be longer than an IPv4 packet says, which has a length of 0 then; each is behind a gap of its own."""
+        talk = Talk("10.1.0.161:5000", "10.0.0.1:6653")
+        for sizes in ((1, LARGEST_PACKET - 100), (LARGEST_PACKET - 100, 1), (1, 1, LARGEST_PACKET - 100, 1), (100_000,) * 3):
+            watched = Watched()
+            watched.watcher.feed(pcap(timed(talk.opening())))
+            at, most = 100, 0
+            for moment, size in enumerate(sizes, 3):
+                watched.watcher.feed(pcap_packet(moment, ethernet(talk.from_client(at, bytes(size), length=0))))
+                at += size + 100
+                (link,) = watched.watcher.follower.links
+                self.assertEqual(link.peer.held_bytes, sum(len(payload) for _place, _size, payload in link.peer.held))
+                self.assertLessEqual(link.peer.held_bytes, MOST_HELD_BYTES)
+                most = max(most, link.peer.held_bytes)
+            self.assertEqual((most > 0, watched.watcher.follower.unreadable), (True, 0))
+
+    def test_the_largest_packet(self):
+        for record in (pcap_packet, enhanced):
+            for size, fault in ((LARGEST_PACKET, None), (LARGEST_PACKET + 1, "the capture is damaged here: a length is out of range")):
+                head = pcap_head() if record is pcap_packet else section() + interface()
+                self.assertEqual(Watched().see(head + record(0, bytes(size))), fault and f"packet 1: {fault}")
+
 
 class Screens(unittest.TestCase):
     def test_of_the_shipped_run(self):
@@ -652,10 +783,10 @@ class Screens(unittest.TestCase):
                 "  from it 1/s (PACKET_IN 1)   to it 1/s (FLOW_MOD 1)",
                 "  alice  127.0.0.1:6633  up since 22:13:20 (1s)",
                 "    from it 1/s (FLOW_MOD 1)   to it 1/s (PACKET_IN 1)",
-                "    flow-mods 1, as 1 to the switch; refused 0; entries 1 of 1024; rate 1 of 1000/s",
+                "    flow-mods 1, as 1 to the switch; messages refused 0; entries 1 of 1024; rate 1 of 1000/s",
                 "  bob  127.0.0.1:6634  up since 22:13:20 (1s)",
                 "    from it 1/s (FLOW_MOD 1)   to it 1/s (ERROR 1)",
-                "    flow-mods 1, as 0 to the switch; refused 1 (1 OFPET_FLOW_MOD_FAILED OFPFMFC_EPERM); "
+                "    flow-mods 1, as 0 to the switch; messages refused 1 (1 OFPET_FLOW_MOD_FAILED OFPFMFC_EPERM); "
                 "entries 0 of 1024; rate 1 of 1000/s",
             ])
             log = run_tool("watch", "--to-end", "--log", path, capture).out.splitlines()
@@ -675,6 +806,20 @@ class Screens(unittest.TestCase):
         self.assertIn("1000/s", screen)
         self.assertIn("rule 0 (line", screen)
         self.assertIn("OFPET_FLOW_MOD_FAILED OFPFMFC_EPERM", screen)
+
+    def test_all_types_and_codes_are_shown(self):
+        scene = Scene()
+        scene.wait(1)
+        kinds = Kind.ECHO_REQUEST, Kind.ECHO_REPLY, Kind.PACKET_OUT, Kind.FLOW_MOD, Kind.STATS_REQUEST, Kind.BARRIER_REQUEST
+        for kind in kinds:
+            scene.from_controller(ALICE, message(kind, 1, bytes(80)))
+        for code in range(6):
+            scene.to_controller(ALICE, message(Kind.ERROR, 1, struct.pack(">HH", 99, code)))
+        rows = list(rows_of(scene.watched().watcher.state()))
+        (rates,) = (row for row in rows if "ECHO_REQUEST" in row and "ECHO_REPLY" in row)
+        self.assertIn(f"from it 6/s ({', '.join(f'{kind.name} 1' for kind in kinds)})", rates)
+        (counts,) = (row for row in rows if "99 0" in row and "entries" in row)
+        self.assertIn(f"; messages refused 6 ({', '.join(f'1 99 {code}' for code in range(6))}); ", counts)
 
     def test_lines_of_a_row(self):
         for row, columns, lines in (

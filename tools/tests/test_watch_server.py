@@ -19,8 +19,9 @@ import urllib.request
 
 from running import SCRIPT
 
+from made_captures import interface, pcap_head, section, simple
 from test_watch import UP
-from watched import POLICY, SWITCH, Scene, busy_scene
+from watched import POLICY, START, SWITCH, Scene, Watched, busy_scene
 
 from devices.traffic import ACK, FIN, RST
 from flowvisor_tool.watching.page import PAGE
@@ -83,7 +84,7 @@ class Served(unittest.TestCase):
         self.assertIn("<polyline", done.stdout)
         for told in (
             "switch 00000000000000a1", "flow-mods: 3, as 3 to the switch", "down since 22:13:21 (0 s): its controller ended it",
-            "refused: 1 OFPET_FLOW_MOD_FAILED OFPFMFC_EPERM", "packets for nobody: 1", "bob: down: its controller ended it",
+            "messages refused: 1 OFPET_FLOW_MOD_FAILED OFPFMFC_EPERM", "packets for nobody: 1", "bob: down: its controller ended it",
         ):
             self.assertIn(told, text)
 
@@ -109,10 +110,22 @@ class Served(unittest.TestCase):
             'flowvisor_slice_messages_total{switch="00000000000000a1",slice="alice",direction="from_controller",type="FLOW_MOD"} 3',
             'flowvisor_slice_refused_messages_total{switch="00000000000000a1",slice="bob",type="OFPET_FLOW_MOD_FAILED",'
             'code="OFPFMFC_EPERM"} 1',
+            'flowvisor_slice_rate_limit_messages_per_second{switch="00000000000000a1",slice="alice"} 1000',
             "flowvisor_capture_missing_bytes_total 0",
+            f"flowvisor_capture_timestamp_seconds {START + 1}",
         ):
             self.assertIn(line, text.splitlines())
         self.assert_form(text)
+
+    def test_metrics_before_the_first_packet(self):
+        """The time of the last packet isn't 0 there: it isn't known."""
+        for capture, count in ((b"", 0), (pcap_head(), 0), (section() + interface() + simple(bytes(60)), 1)):
+            watched = Watched()
+            watched.watcher.feed(capture)
+            text = watched.watcher.metrics_text()
+            self.assertIn(f"flowvisor_capture_packets_total {count}", text.splitlines())
+            self.assertEqual(re.findall("^flowvisor_capture_timestamp_seconds.*", text, re.MULTILINE), [])
+            self.assert_form(text)
 
     def assert_form(self, text):
         """Each sample is of a family that has a kind and a text, and counters end with _total."""

@@ -6,10 +6,12 @@ from ..captures import Packet, Problem
 from ..connections import SWITCH
 from ..openflow.ethernet import IPV4, TCP
 from ..segments import ACK, FIN, RST, SYN, datagram_of, segment_of
-from .links import SEQUENCES, How, Link, State
+from .links import LATEST, SEQUENCES, How, Link, State
 from .messages import Certainty, Messages
 
 MOST_LINKS = 1024
+# In which order connections are forgotten where there are more.
+GOING = State.ENDED, State.CALLED, State.UP
 # A connection that has ended and has bytes after so many seconds is another one, whose beginning isn't in the capture.
 REMAINS = 2.0
 # For how many seconds a connection is known that has ended, or a call that nobody answers.
@@ -216,9 +218,9 @@ class Follower:
         self.observer.ended(link, side, how, before is State.UP)
 
     def forget_some(self):
-        """Makes room for other connections: a quarter of them goes, those first that have ended or are silent for long."""
-        oldest = sorted(self.links, key=lambda link: (link.state is not State.ENDED, link.last()))
-        for link in oldest[: MOST_LINKS // 4]:
+        """Makes room for other connections: a quarter goes, the longest silent first, but none that is up where others are."""
+        oldest = sorted(self.links, key=lambda link: (GOING.index(link.state), link.last()))[: MOST_LINKS // 4]
+        for link in [one for one in oldest if one.state is not State.UP] or oldest:
             if link.state is not State.ENDED:
                 self.end(link, None, How.FORGOTTEN)
             self.drop(link)
@@ -238,7 +240,7 @@ class Follower:
             if link.state is State.UP:
                 link.peer.check_gap(time)
                 link.proxy.check_gap(time)
-            elif not 0 <= time - link.since < KEPT:
+            elif not -LATEST <= time - link.since < KEPT:
                 self.end(link, None, How.FORGOTTEN)
                 self.drop(link)
 

@@ -7,8 +7,10 @@ from ..captures import (
     block_body, interface_of, section_order, simple_packet, timed_packet,
 )
 
-# tcpdump takes at most 262,144 bytes of a packet. Longer blocks of other kinds are passed over as they come.
-LARGEST_PACKET = 1 << 20
+# tcpdump takes at most so many bytes of a packet.
+LARGEST_PACKET = 1 << 18
+# A block has its packet's options too. Longer blocks of other kinds are passed over as they come.
+LARGEST_BLOCK = 1 << 20
 MOST_INTERFACES = 1 << 12
 PCAP_HEADER, RECORD_HEAD, SECTION_HEAD = 24, 16, 12
 PACKET_BLOCKS = (ENHANCED_PACKET, OBSOLETE_PACKET, SIMPLE_PACKET)
@@ -101,7 +103,7 @@ class GrowingCapture:
             kind, size = struct.unpack_from(order + "II", data, at)
             if size % 4 or size < SECTION_HEAD:
                 self.refuse("a block's length is wrong")
-            if size > LARGEST_PACKET:
+            if size > LARGEST_BLOCK:
                 if is_section or kind == INTERFACE or kind in PACKET_BLOCKS:
                     self.refuse("a length is out of range")
                 self.skipped = size
@@ -126,6 +128,8 @@ class GrowingCapture:
             self.interfaces.append(interface_of(source, self.order, body))
         elif kind in PACKET_BLOCKS:
             packet = self.packet_of(source, kind, body)
+            if len(packet.data) > LARGEST_PACKET:
+                self.refuse("a length is out of range")
             self.number = packet.number
             time = None if packet.time is None else float(packet.time)
             self.hear(time, packet.data, 0, len(packet.data), packet.full, packet.link)

@@ -6,6 +6,8 @@ SEQUENCES = 0xFFFFFFFF
 HALF = 1 << 31
 # How much of a side is kept behind a gap, and for how many seconds, before the bytes between are given up.
 MOST_HELD, MOST_HELD_BYTES, LONGEST_GAP = 64, 1 << 17, 1.0
+# How many seconds a clock may go back without being taken as set anew: a packet may be a little older than the one before.
+LATEST = 5
 # A reset counts only where its number is near those of the connection.
 NEAR = 1 << 24
 
@@ -62,12 +64,12 @@ class Side:
             self.take_held()
 
     def hold(self, time, gap, payload, size):
-        """Keeps a segment behind a gap."""
+        """Keeps a segment behind a gap, and gives gaps up, the first ones first, until what is kept is in bounds."""
         if not self.held:
             self.held_since = time
         heapq.heappush(self.held, (self.taken + gap, size, payload))
         self.held_bytes += len(payload)
-        if len(self.held) > MOST_HELD or self.held_bytes > MOST_HELD_BYTES:
+        while self.held and (len(self.held) > MOST_HELD or self.held_bytes > MOST_HELD_BYTES):
             self.give_up_gap()
 
     def take(self, payload, size):
@@ -97,7 +99,7 @@ class Side:
 
     def check_gap(self, time):
         """Gives a gap up that has been there for too long."""
-        if self.held and not 0 <= time - self.held_since < LONGEST_GAP:
+        if self.held and not -LATEST <= time - self.held_since < LONGEST_GAP:
             self.held_since = time
             self.give_up_gap()
 

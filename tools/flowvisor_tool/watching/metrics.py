@@ -1,4 +1,6 @@
 """What is counted, in Prometheus' text format (version 0.0.4)."""
+import math
+
 from .parties import OTHER_CODE
 from .state import error_text
 from .tallies import NAMES
@@ -43,7 +45,8 @@ def capture_families(world, follower):
         ("flowvisor_capture_unread_bytes_total", "counter", "Bytes of connections of which it isn't known what they say.",
          [({}, follower.unread())]),
         ("flowvisor_capture_unreadable_packets_total", "counter", "Packets that can't be read.", [({}, follower.unreadable)]),
-        ("flowvisor_capture_timestamp_seconds", "gauge", "The time of the last packet.", [({}, float(follower.time))]),
+        ("flowvisor_capture_timestamp_seconds", "gauge", "The time of the last packet.",
+         [({}, float(follower.time))] if math.isfinite(follower.second) else []),
         ("flowvisor_switches", "gauge", "Switches that are connected.", [({}, sum(switch.is_up for switch in world.switches))]),
     ]
 
@@ -96,7 +99,7 @@ def slice_families(world):
          [(labels, one.quota) for _here, one, labels in slices]),
         ("flowvisor_slice_rated_messages", "gauge", "Messages of the last second that the slice's rate counts.",
          [(labels, here.rated()) for here, _one, labels in slices]),
-        ("flowvisor_slice_rate_messages", "gauge", "How many messages a second the slice's rate gives.",
+        ("flowvisor_slice_rate_limit_messages_per_second", "gauge", "How many messages a second the slice's rate gives.",
          [(labels, one.rate) for _here, one, labels in slices]),
         ("flowvisor_slice_refused_messages_total", "counter", "Messages of the slice that were answered by an error.",
          [(labels | error_labels(error), count) for here, _one, labels in slices for error, count in here.refused.items()]),

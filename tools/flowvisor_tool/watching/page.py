@@ -108,7 +108,7 @@ function sliceRow(one) {
   told.append(paragraph(`flow-mods: ${number(one.flow_mods)}, as ${number(one.pieces)} to the switch`));
   told.append(paragraph(`entries: ${one.entries_at_least ? "at least " : ""}${number(one.entries)} of ${number(one.quota)}; ` +
     `rate: ${number(one.rated)} of ${number(one.rate)}/s`));
-  if (refused) told.append(paragraph(`refused: ${refused}`, "down"));
+  if (refused) told.append(paragraph(`messages refused: ${refused}`, "down"));
   if (one.refusals.length) told.append(paragraph(one.refusals[one.refusals.length - 1][1], "small"));
   told2.append(plot(one.plot));
   const who = element("td");

@@ -42,13 +42,13 @@ class Party:
         self.sent.settle()
         self.got.settle()
 
-    def count(self, second, refused):
-        """A second has passed."""
+    def count(self, second, passed, refused):
+        """A second is over that had packets, and so many seconds have passed since it began."""
         self.plot.add(second, (self.sent.tick(), self.got.tick(), refused))
         if self.link is not None:
-            self.watch_silence()
+            self.watch_silence(passed)
 
-    def watch_silence(self):
+    def watch_silence(self, passed):
         """Looks whether what one side has sent is acknowledged by the other."""
         waiting = tuple(
             (side.next, other.acknowledges)
@@ -56,7 +56,7 @@ class Party:
             if None not in (side.next, other.acknowledges) and 0 < (side.next - other.acknowledges) & 0xFFFFFFFF < 1 << 31
         )
         acknowledged = tuple(acknowledges for _next, acknowledges in waiting)
-        self.silent = self.silent + 1 if acknowledged and acknowledged == self.waiting else 0
+        self.silent = self.silent + passed if acknowledged and acknowledged == self.waiting else 0
         self.waiting = acknowledged
 
 

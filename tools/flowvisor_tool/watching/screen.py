@@ -77,11 +77,11 @@ def slice_rows(one):
         return
     yield f"{2 * INDENT}from it {rates(one['sent'])}   to it {rates(one['got'])}"
     refused = sum(count for _code, count in one["refused"])
-    codes = ", ".join(f"{number(count)} {code}" for code, count in one["refused"][:3])
+    codes = ", ".join(f"{number(count)} {code}" for code, count in one["refused"])
     least = "at least " if one["entries_at_least"] else ""
     yield (
         f"{2 * INDENT}flow-mods {number(one['flow_mods'])}, as {number(one['pieces'])} to the switch; "
-        f"refused {number(refused)}{f' ({codes})' if codes else ''}; "
+        f"messages refused {number(refused)}{f' ({codes})' if codes else ''}; "
         f"entries {least}{one['entries']} of {one['quota']}; rate {one['rated']} of {one['rate']}/s"
     )
     if one["refusals"]:
@@ -107,7 +107,7 @@ def duration(seconds):
 def rates(pairs):
     """Messages a second, all and by type."""
     total = sum(count for _name, count in pairs)
-    types = ", ".join(f"{name} {number(count)}" for name, count in pairs[:4])
+    types = ", ".join(f"{name} {number(count)}" for name, count in pairs)
     return f"{number(total)}/s" + (f" ({types})" if types else "")
 
 

@@ -5,12 +5,10 @@ import datetime
 from ..connections import SWITCH
 from ..ends import spelled
 from .hearing import Hearing
-from .links import How
+from .links import LATEST, How
 from .parties import SILENT, Room, SliceHere, SwitchHere
 
 MOST_SWITCHES, MOST_STRAYS, MOST_HAPPENINGS = 64, 64, 200
-# How many seconds a clock may go back without being taken as set anew.
-LATEST = 5
 
 
 def moment_text(time):
@@ -76,9 +74,9 @@ class World:
         self.tell(f"switch {switch.name()}: {'was connected before the capture began' if link.is_late else 'connected'}")
 
     def make_room(self):
-        """Forgets the switch that is gone for the longest time, where there are too many."""
+        """Forgets a switch where there are too many: one that is gone, and first one that never said which it is."""
         if len(self.switches) >= MOST_SWITCHES:
-            gone = min(self.switches, key=lambda switch: (switch.is_up, switch.since))
+            gone = min(self.switches, key=lambda switch: (switch.is_up, switch.datapath is not None, switch.since))
             if gone.link is not None:
                 gone.link.view = None
             for here in gone.slices.values():
@@ -86,7 +84,14 @@ class World:
                     here.link.view = None
             self.switches.remove(gone)
             gone.forget_entries()
-            self.forgotten += 1
+            self.forgotten += gone.is_up or gone.datapath is not None
+
+    def drop(self, switch):
+        """Keeps nothing of what wasn't a switch. Of which one its slices' connections are isn't known then."""
+        self.switches.remove(switch)
+        for here in switch.slices.values():
+            if here.link is not None and len(self.strays) < MOST_STRAYS:
+                self.strays[here.link] = here
 
     def controller_up(self, link):
         """The proxy has connected to a controller, for a switch."""
@@ -140,6 +145,8 @@ class World:
         switch = self.switch_of(view)
         if link.role == SWITCH:
             self.tell(f"switch {view.name()}: down: {reason}")
+            if view.datapath is None and not link.peer.taken and not link.is_late:
+                self.drop(view)
         elif switch is not None:
             self.tell(f"switch {switch.name()}: {self.slices[link.role].name}: down: {reason}")
 
@@ -207,20 +214,21 @@ class World:
         # A packet may be a little older than the one before, or than the clock.
         if self.second - LATEST <= second <= self.second:
             return
+        passed = max(0, second - self.second)
         for switch in self.switches:
-            self.tick_switch(switch)
+            self.tick_switch(switch, passed)
         for stray in self.strays.values():
-            stray.count(self.second, 0)
+            stray.count(self.second, passed, 0)
         self.second = second
 
-    def tick_switch(self, switch):
+    def tick_switch(self, switch, passed):
         """Counts what a second had of a switch."""
         nobody, switch.nobody_before = switch.nobody - switch.nobody_before, switch.nobody
         if nobody > switch.nobody_told:
             self.tell(f"switch {switch.name()}: {nobody - switch.nobody_told} packets more for nobody in this second")
         switch.nobody_told = 0
         was_silent = switch.silent
-        switch.count(self.second, nobody)
+        switch.count(self.second, passed, nobody)
         self.tell_silence(switch, was_silent, f"switch {switch.name()}")
         for here in switch.slices.values():
             total = sum(here.refused.values())
@@ -230,7 +238,7 @@ class World:
                 self.tell(f"switch {switch.name()}: {name}: {refused - here.told} messages more refused in this second")
             here.told = 0
             was_silent = here.silent
-            here.count(self.second, refused)
+            here.count(self.second, passed, refused)
             self.tell_silence(here, was_silent, f"switch {switch.name()}: {name}")
 
     def tell_silence(self, party, was_silent, who):
