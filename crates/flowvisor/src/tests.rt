@@ -244,7 +244,7 @@ pub fn words(rt: &HostRuntime, said: &str) -> Result<Vec<String>, Fail> {
 }
 
 /// Starts no thread.
-fn no_thread(_work: LiveWork<HostRuntime>, _done: Arc<Done, Global>) -> Option<JoinHandle<()>> {
+fn no_thread<R: Host>(_work: LiveWork<R>, _done: Arc<Done, Global>) -> Option<JoinHandle<()>> {
     None
 }
 
@@ -271,10 +271,16 @@ const ANSWERS: [(&str, usize, u8, &str, &str); 17] = [
 ];
 
 // What the program answers without threads. Its own function, so that the test knows nothing of its contract.
-fn answered(rt: &HostRuntime, words: &[String], room: &mut [u8], err: &mut MemorySink) -> u8 {
-    let mut spawner = ThreadSpawner::new(rt.alloc(), no_thread);
-    let mut disk = Disk::new(rt);
-    answer(rt, rt.alloc(), words, &mut disk, &mut spawner, room, err)
+fn answered<R: Host + Net<Listener = TcpListener, Stream = TcpStream>>(
+    rt: &R,
+    alloc: Global,
+    words: &[String],
+    disk: &mut Disk<'_>,
+    room: &mut [u8],
+    err: &mut MemorySink,
+) -> u8 {
+    let mut spawner = ThreadSpawner::new(alloc, no_thread);
+    answer(rt, alloc, words, disk, &mut spawner, room, err)
 }
 
 /// What no output is written to.
@@ -290,7 +296,9 @@ fn words_are_answered_with_their_status(rt: HostRuntime) -> Result<(), Fail> {
         let words = words(&rt, said)?;
         let mut room = [0u8; 2048];
         let mut err = MemorySink::new(rt.alloc());
-        let answered = answered(&rt, &words, &mut room[..size.min(2048)], &mut err);
+        let mut disk = Disk::new(&rt);
+        let room_there = &mut room[..size.min(2048)];
+        let answered = answered(&rt, rt.alloc(), &words, &mut disk, room_there, &mut err);
         expect_eq!(answered, status, said);
         assert!(rt; room.starts_with(output.as_bytes()), "{said}");
         let behind = room.get(output.len()..).unwrap_or(b"");
