@@ -9,7 +9,7 @@ from .policy_forms import read_network
 NAME = "lint"
 SUMMARY = "print all that is wrong with a policy"
 EPILOG = """\
-A fault is what flowvisor check refuses the policy for; it prints the first one alone. A warning is what it accepts, but
+A fault is what flowvisor check refuses the policy for; it says the first one alone. A warning is what it accepts, but
 hardly was meant: a rule that never applies, bits of an address that don't count, a reader of some overlapping rules of
 a slice alone, a controller that can never be dialled, two slices with one controller. The status is 1 where there is a
 fault, and with --strict where there is a warning too. With --under what flowvisor flatten refuses is a fault too, and a
