@@ -286,24 +286,45 @@ fn answered<R: Host + Net<Listener = TcpListener, Stream = TcpStream>>(
 /// What no output is written to.
 const NOTHING: [u8; 2048] = [0; 2048];
 
+/// Whether these bytes begin with the output, and nothing was written behind it.
+fn is_output(room: &[u8], output: &[u8]) -> bool {
+    room.starts_with(output) && NOTHING.ends_with(room.get(output.len()..).unwrap_or(b""))
+}
+
+fn expect_answer<R: Host + Net<Listener = TcpListener, Stream = TcpStream>>(
+    rt: &R,
+    disk: &mut Disk<'_>,
+    words: &[String],
+    row: &(&str, usize, u8, &str, &str),
+    alloc: Global,
+) -> Result<(), Fail> {
+    let (said, size, status, output, line) = *row;
+    let mut room = [0u8; 2048];
+    let mut err = MemorySink::new(alloc);
+    let answered = answered(
+        rt,
+        alloc,
+        words,
+        disk,
+        &mut room[..size.min(2048)],
+        &mut err,
+    );
+    expect_eq!(answered, status, said);
+    expect_eq!(is_output(&room, output.as_bytes()), true, said);
+    expect_eq!(err.as_slice(), line.as_bytes(), said);
+    Ok(())
+}
+
 #[test]
 fn words_are_answered_with_their_status(rt: HostRuntime) -> Result<(), Fail> {
     let policy = scratch_path(&rt, "policy")?;
     let recording = scratch_path(&rt, "recording")?;
     fs::create(&rt, policy.as_str())?.write_all(POLICY)?;
     fs::create(&rt, recording.as_str())?.write_all(b"FVREC\0\0\x01")?;
-    for (said, size, status, output, line) in ANSWERS {
-        let words = words(&rt, said)?;
-        let mut room = [0u8; 2048];
-        let mut err = MemorySink::new(rt.alloc());
+    for row in &ANSWERS {
+        let words = words(&rt, row.0)?;
         let mut disk = Disk::new(&rt);
-        let room_there = &mut room[..size.min(2048)];
-        let answered = answered(&rt, rt.alloc(), &words, &mut disk, room_there, &mut err);
-        expect_eq!(answered, status, said);
-        assert!(rt; room.starts_with(output.as_bytes()), "{said}");
-        let behind = room.get(output.len()..).unwrap_or(b"");
-        assert!(rt; NOTHING.ends_with(behind), "{said}");
-        expect_eq!(err.as_slice(), line.as_bytes(), said);
+        expect_answer(&rt, &mut disk, &words, row, rt.alloc())?;
     }
     fs::remove_file(&rt, policy.as_str())?;
     fs::remove_file(&rt, recording.as_str())?;
