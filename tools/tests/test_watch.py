@@ -288,9 +288,9 @@ class Refusals(unittest.TestCase):
     def test_ports(self):
         with policy_file(POLICY.read_text().replace('write = "alice"', 'write = "alice"\nin_port = 1')) as path:
             told = self.refused((2, 4), flow_mod(port_match(80), output(1) + output(9)), policy=path)
-            self.assertTrue(told.endswith("OFPBAC_BAD_OUT_PORT: port 9 isn't one to which alice may send"), told)
+            self.assertTrue(told.endswith("OFPBAC_BAD_OUT_PORT: port 9 isn't one to which alice may send: its ports are 1 by rule 0 (line 12)"), told)
             told = self.refused((2, 4), packet_out(tcp_packet(80), output(0xFFFA)), policy=path)
-            self.assertTrue(told.endswith("port NORMAL isn't one to which alice may send"), told)
+            self.assertTrue(told.endswith("port NORMAL isn't one to which alice may send: its ports are 1 by rule 0 (line 12)"), told)
 
     def test_ports_of_its_own(self):
         def match(port):
@@ -300,7 +300,7 @@ class Refusals(unittest.TestCase):
             told = self.refused((3, 2), flow_mod(match(2), output(1)), BOB, path)
             self.assertTrue(told.endswith("it is outside bob: rule 0 (line 8), of alice, has all of its packets"), told)
             told = self.refused((2, 4), flow_mod(match(1), output(1) + output(2)), BOB, path)
-            self.assertTrue(told.endswith("port 2 isn't one to which bob may send"), told)
+            self.assertTrue(told.endswith("port 2 isn't one to which bob may send: its ports are 1 by rule 1 (line 12)"), told)
 
     def test_messages_that_are_cut(self):
         for kind, most in ((Kind.PACKET_OUT, 16), (Kind.FLOW_MOD, 80)):

@@ -17,6 +17,7 @@ FLOW_MOD_START = struct.Struct(">40sQHHHH")
 FLOW_MOD_SIZE = HEADER.size + FLOW_MOD_START.size
 FLAGS_AT, ACTIONS_AT = 70, 72
 PACKET_OUT_START = struct.Struct(">IHH")
+MOST_PORTS_NAMED = 4
 FREE_IN_PORT = 1  # in a match's wildcards
 # How long a message is at least of which more is read than its header.
 LEAST = {MessageType.FLOW_MOD: ACTIONS_AT, MessageType.PACKET_OUT: HEADER.size + PACKET_OUT_START.size}
@@ -125,6 +126,19 @@ class Refusals:
         whose = f"{rule}, {owner(rule)}, has it" if rule else "no rule has it"
         return f"its packet is outside {one.name}: {packet_text(header)}: {whose}"
 
+    def own_ports(self, one, datapath):
+        """The ports of a slice as it is shown them, and the rules that name them."""
+        named = {}
+        for rule in self.audience.rules:
+            if rule.writer == one.name and rule.pattern.holds_on(datapath):
+                if "in_port" not in rule.pattern.constraints:
+                    return f"its ports are all that the switch has, by {rule}"
+                named.setdefault(rule.pattern.constraints["in_port"][0], rule)
+        if not named:
+            return "it has no ports, since it writes no rule on this switch"
+        shown = sorted(((self.physical(one, datapath, port), rule) for port, rule in named.items()), key=lambda pair: pair[0])
+        return "its ports are " + some_of([f"{port_of(port)} by {rule}" for port, rule in shown])
+
     def physical(self, one, datapath, port):
         """The switch's own number of a port that a slice names."""
         return self.audience.policy.shown_port(one.name, datapath, port)
@@ -145,8 +159,14 @@ class Refusals:
         """An action that names a port which the slice may not send to."""
         for port in output_ports(data, message):
             if not self.audience.may_send_to(one.name, self.physical(one, datapath, port), datapath):
-                return f"port {port_of(port)} isn't one to which {one.name} may send"
+                return f"port {port_of(port)} isn't one to which {one.name} may send: {self.own_ports(one, datapath)}"
         return "it names a port that isn't the slice's"
+
+
+def some_of(texts):
+    """The first texts, and how many there are more."""
+    more = len(texts) - MOST_PORTS_NAMED
+    return ", ".join(texts[:MOST_PORTS_NAMED]) + (f" and {more} more" if more > 0 else "")
 
 
 def is_long_enough(message):
