@@ -95,7 +95,8 @@ class Division:
         """Port numbers of slices' own, which neither policy may have."""
         told = "has tables [[port]], but a slice can be divided only where no port numbers are exchanged"
         if self.outer.policy.swaps:
-            yield Finding(Position(1, 1), f"{self.outer.path} {told}")
+            first = self.outer.policy.swaps[0]
+            yield Finding(Position(1, 1), f"{self.outer.path} {told}: {first} is its first")
         if self.inner.policy.swaps:
             yield Finding(self.inner.policy.swaps[0].position, f"{self.inner.path} {told}")
 

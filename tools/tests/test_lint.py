@@ -352,6 +352,18 @@ class Divisions(unittest.TestCase):
         ]:
             self.assertEqual(self.lint(inner), (1, [told_of, "refused: 1 fault"], ""))
 
+    def test_port_tables(self):
+        table = '[[port]]\nslice = "{}"\nshown = 9\nphysical = 2\n'
+        why = "has tables [[port]], but a slice can be divided only where no port numbers are exchanged"
+        inner = self.INNER.replace("version = 1", "version = 2") + table.format("carol")
+        line = inner[: inner.index("[[port]]")].count("\n") + 1
+        self.assertEqual(self.lint(inner), (1, [f"{line}:1: fault: {self.inner} {why}", "refused: 1 fault"], ""))
+        outer = self.OUTER.replace("version = 1", "version = 2") + table.format("alice")
+        pathlib.Path(self.outer).write_text(outer)
+        line = outer[: outer.index("[[port]]")].count("\n") + 1
+        self.assertEqual(
+            self.lint(self.INNER), (1, [f"1:1: fault: {self.outer} {why}: port 0 (line {line}) is its first", "refused: 1 fault"], ""))
+
     def test_limits(self):
         share = "rate = 1\nburst = 1\nquota = 1\n"
         slices = "".join(f'[[slice]]\nname = "s{slot}"\ncontroller = "c{slot}:1"\n{share}' for slot in range(32))
